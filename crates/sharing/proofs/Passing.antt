@@ -1,0 +1,25 @@
+-- A loop that looks for an element which fails a test.
+use mathlib.Core.Path.{_≡_, ap, _∙_}
+use mathlib.Core.Bool.{Bool, true, false, _&&_}
+use mathlib.Core.List.{List, [], _∷_}
+use Prim.Native.Nat.{ℕ, _+_, _≤_, _<_}
+use lib.ListN.{length, getD, drop}
+use Rattle.std.specs.shelf.Lawful.{all-pass}
+use Rattle.std.specs.shelf.Lists.{All}
+use Rattle.std.proofs.shelf.Lists.{at-drop-more, at-drop-all}
+use Rattle.std.proofs.shelf.Tests.{and-parts}
+
+module _ {X : Type 0} (p : X → Bool) (xs : List X) (i : ℕ) where
+  pub one-fails : (d : X) → i < length xs → p (getD xs i d) ≡ false → all-pass p (drop i xs) ≡ false
+  one-fails d within fails = at-drop-more (all-pass p) xs i d within ∙ ap (λ b. b && all-pass p (drop (i + 1) xs)) fails
+
+  pub one-passes : (d : X) → i < length xs → p (getD xs i d) ≡ true → all-pass p (drop i xs) ≡ all-pass p (drop (i + 1) xs)
+  one-passes d within passes = at-drop-more (all-pass p) xs i d within ∙ ap (λ b. b && all-pass p (drop (i + 1) xs)) passes
+
+  pub none-fails : length xs ≤ i → all-pass p (drop i xs) ≡ true
+  none-fails past = at-drop-all (all-pass p) xs i past
+
+-- where all pass, each does
+pub all-from-pass : {X : Type 0} (p : X → Bool) (P : X → Type 0) → ((x : X) → p x ≡ true → P x) → (xs : List X) → all-pass p xs ≡ true → All P xs
+all-from-pass p P each [] e = tt
+all-from-pass p P each (x ∷ xs) e = let both = and-parts (p x) (all-pass p xs) e in (each x (both .0), all-from-pass p P each xs (both .1))

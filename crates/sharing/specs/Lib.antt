@@ -1,0 +1,11 @@
+pub mod Amounts
+pub mod Cuts
+pub mod Keys
+pub mod Light
+pub mod Limits
+pub mod Refusals
+pub mod Rounds
+pub mod Sharings
+pub mod Whole
+pub mod Words
+pub mod Worked
