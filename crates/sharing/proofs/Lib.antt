@@ -6,3 +6,4 @@ pub mod Picked
 pub mod SubMeters
 pub mod Weighing
 pub mod Wholes
+pub mod Worked

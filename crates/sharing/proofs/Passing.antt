@@ -6,6 +6,7 @@ use Prim.Native.Nat.{ℕ, _+_, _≤_, _<_}
 use lib.ListN.{length, getD, drop}
 use Rattle.std.specs.shelf.Lawful.{all-pass}
 use Rattle.std.specs.shelf.Lists.{All}
+use Rattle.std.proofs.shelf.Elements.{all-getD}
 use Rattle.std.proofs.shelf.Lists.{at-drop-more, at-drop-all}
 use Rattle.std.proofs.shelf.Tests.{and-parts}
 
@@ -23,3 +24,7 @@ module _ {X : Type 0} (p : X → Bool) (xs : List X) (i : ℕ) where
 pub all-from-pass : {X : Type 0} (p : X → Bool) (P : X → Type 0) → ((x : X) → p x ≡ true → P x) → (xs : List X) → all-pass p xs ≡ true → All P xs
 all-from-pass p P each [] e = tt
 all-from-pass p P each (x ∷ xs) e = let both = and-parts (p x) (all-pass p xs) e in (each x (both .0), all-from-pass p P each xs (both .1))
+
+-- where all pass, the one at a place does
+pub pass-at : {X : Type 0} (p : X → Bool) (xs : List X) (i : ℕ) (d : X) → i < length xs → all-pass p xs ≡ true → p (getD xs i d) ≡ true
+pass-at p xs i d within e = all-getD (λ x. p x ≡ true) xs i d within (all-from-pass p (λ x. p x ≡ true) (λ x h. h) xs e)

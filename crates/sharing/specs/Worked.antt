@@ -1,4 +1,4 @@
--- Worked settlements, computed from the definitions.
+-- Worked cases of sharing, computed from the definitions.
 use Rattle.sharing.specs.Words.{_≡_, List, [], _∷_}
 use Rattle.sharing.specs.Cuts.{shared}
 use Rattle.sharing.specs.Whole.{down, nearest}

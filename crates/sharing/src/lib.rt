@@ -9,4 +9,3 @@ pub mod share;
 #[cfg(test)]
 mod tests;
 pub mod weigh;
-pub mod worked;

@@ -1,5 +1,5 @@
 // Worked settlements.
-ghost use Rattle.sharing.specs.Worked.{Worked};
+ghost use Rattle.tariff.specs.Worked.{Worked};
 
 // The definitions give the worked cases. The function does nothing: its contract is the statement.
 pub fn worked_cases()

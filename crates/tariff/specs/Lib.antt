@@ -1,0 +1,7 @@
+pub mod Charges
+pub mod Estimates
+pub mod Limits
+pub mod Rows
+pub mod Uses
+pub mod Weather
+pub mod Worked
