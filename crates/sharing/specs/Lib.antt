@@ -3,6 +3,7 @@ pub mod Cuts
 pub mod Keys
 pub mod Light
 pub mod Limits
+pub mod Order
 pub mod Refusals
 pub mod Rounds
 pub mod Sharings

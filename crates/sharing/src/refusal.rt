@@ -1,5 +1,6 @@
 // Why a call is refused.
 ghost use mathlib.Core.Path.{_≡_};
+ghost use Rattle.sharing.specs.Order.{Ascend};
 ghost use Rattle.sharing.specs.Refusals.{number, Smallest};
 
 // Each case with its number, smaller numbers first; docs/REFUSALS.md says when each is answered.
@@ -62,7 +63,8 @@ impl Refusal {
     }
 }
 
-// Of all the conditions that hold, the call answers the one with the smallest number.
+// Of all the conditions that hold, the call answers the one with the smallest number. The function does nothing: its contract is the statement.
 pub fn smallest_is_answered()
-    ensures { λ _. ⌜ Smallest ⌝ }
+    ensures smallest { λ _. ⌜ Smallest ⌝ }
+    ensures ascend { λ _. ⌜ Ascend ⌝ }
 {}

@@ -19,7 +19,7 @@ use Rattle.sharing.specs.declared.refusal.Refusal.{Refusal}
 use Rattle.sharing.proofs.Passing.{all-from-pass}
 use Rattle.sharing.proofs.Picked.{none-hold}
 use Rattle.tariff.specs.Charges.{Charge, Power, Fixed, Energy, Variable, Carrier, five, most-price}
-use Rattle.tariff.specs.Rows.{Row, Plain, Mixed, Mix, Prices, price-in, price-over, depth-over, price, depth, most-depth, prices-within, parts-known, row-why, keeps-rules, mixed-price, worked-out, no-row, rows-good-above, rows-good, Price-law}
+use Rattle.tariff.specs.Rows.{Row, Plain, Mixed, Mix, Prices, price-in, price-over, depth-over, price, depth, most-depth, prices-within, parts-known, row-why, keeps-rules, mixed-price, worked-out, no-row, rows-good-above, rows-good, whole, Price-law}
 use Rattle.tariff.proofs.WorkedOut.{worked-out-below, worked-out-at}
 
 none-is : (o : Option Refusal) → not (isSome o) ≡ true → o ≡ None
@@ -41,7 +41,7 @@ pub price-low : (p : Prices) → prices-within p ≡ true → (c : Charge) → p
 price-low p e c = leb-true _ _ (of-five (λ c. leb (price-in c p) (most-price c)) e c)
 
 -- no price passes 100 million
-pub most-low : (c : Charge) → most-price c ≤ 100_000_000
+pub most-low : (c : Charge) → most-price c ≤ most-price Power
 most-low Power = omega arith
 most-low Fixed = omega arith
 most-low Energy = omega arith
@@ -53,7 +53,7 @@ pub record Kept (rows : List Row) (m : Mix) : Type 0 where
   pub a-low : m .a .row < length rows
   pub b-low : m .b .row < length rows
   pub addend : prices-within (m .addend) ≡ true
-  pub thousand : m .a .thousandths + m .b .thousandths ≡ 1_000
+  pub thousand : m .a .thousandths + m .b .thousandths ≡ whole
   pub shallow : depth-over (depth rows) (Mixed m) ≤ most-depth
   pub limit : (c : Charge) → price-over c (price c rows) (Mixed m) ≤ most-price c
 
@@ -139,14 +139,14 @@ module _ (rows : List Row) (good : rows-good rows ≡ true) (i : ℕ) (within : 
   depth-within = let r = getD rows i no-row in omega (arith, worked-out-at depth-over rows i no-row within, shallow-at r (row-kept rows good i no-row within))
 
   -- what holds of a mixed row among the rows below it
-  pub mixed-at : (m : Mix) (d : Row) → getD rows i d ≡ Mixed m → (m .a .row < i) × (m .b .row < i) × (prices-within (m .addend) ≡ true) × (m .a .thousandths + m .b .thousandths ≡ 1_000)
+  pub mixed-at : (m : Mix) (d : Row) → getD rows i d ≡ Mixed m → (m .a .row < i) × (m .b .row < i) × (prices-within (m .addend) ≡ true) × (m .a .thousandths + m .b .thousandths ≡ whole)
   mixed-at m d is =
       let k = kept-mixed (take i rows) m (ap (keeps-rules (take i rows)) (sym is) ∙ row-kept rows good i d within) in
       let long = length-take-le i rows (omega arith) in
       (omega (arith, k .a-low, long), omega (arith, k .b-low, long), k .addend, k .thousand)
 
 -- the mix of two prices before its thousandths are divided out
-pub mix-low : (a x b y : ℕ) → a + b ≡ 1_000 → x ≤ 100_000_000 → y ≤ 100_000_000 → a * x + b * y ≤ 100_000_000_000
+pub mix-low : (a x b y : ℕ) → a + b ≡ whole → x ≤ most-price Power → y ≤ most-price Power → a * x + b * y ≤ whole * most-price Power
 mix-low a x b y thousand x-low y-low =
     omega (arith, mul-le-mul-left a x-low, mul-le-mul-left b y-low)
 
@@ -160,7 +160,7 @@ price-law rows good = record {
 -- what is mixed from the prices of two rows and the addend, and that these are low enough to be mixed
 module _ (c : Charge) (rows : List Row) (good : rows-good rows ≡ true) (m : Mix) (a-low : m .a .row < length rows) (b-low : m .b .row < length rows)
     (addend : prices-within (m .addend) ≡ true) (x y z : ℕ) (x-is : x ≡ price c rows (m .a .row)) (y-is : y ≡ price c rows (m .b .row)) (z-is : z ≡ price-in c (m .addend)) where
-  pub parts-low : (x ≤ 100_000_000) × ((y ≤ 100_000_000) × (z ≤ 100_000_000))
+  pub parts-low : (x ≤ most-price Power) × ((y ≤ most-price Power) × (z ≤ most-price Power))
   parts-low =
       let most = most-low c in
       (omega (arith, most, price-within rows good (m .a .row) a-low c), (omega (arith, most, price-within rows good (m .b .row) b-low c), omega (arith, most, price-low (m .addend) addend c)))

@@ -7,9 +7,10 @@ ghost use lib.ListN.{length};
 ghost use Rattle.std.specs.shelf.Lawful.{all-pass};
 ghost use Rattle.sharing.specs.Refusals.{refusal};
 ghost use Rattle.tariff.specs.Charges.{five, most-price};
-ghost use Rattle.tariff.specs.Rows.{Mixed, depth, depth-over, most-depth, price, price-over, prices-within, row-why, rows-good};
+ghost use Rattle.tariff.specs.Rows.{Mixed, depth, depth-over, most-depth, price, price-over, prices-within, row-why, rows-good, whole};
 use crate::charge::Charge;
 use crate::charge::FIVE;
+use crate::price::WHOLE;
 use crate::price::depth_of;
 use crate::price::mixed;
 use crate::price::price_of;
@@ -46,7 +47,7 @@ fn mix_refusal(rows: &[Row], mix: &Mix) -> Option<Refusal>
     if !mix.addend.within() {
         return Some(Refusal::OutOfRange);
     }
-    if mix.a.thousandths.checked_add(mix.b.thousandths) != Some(1_000) || too_deep(rows, mix) {
+    if mix.a.thousandths.checked_add(mix.b.thousandths) != Some(WHOLE) || too_deep(rows, mix) {
         return Some(Refusal::WrongMix);
     }
     if !mixed_within(rows, mix) {
@@ -69,7 +70,7 @@ fn mixed_within(rows: &[Row], mix: &Mix) -> bool
     requires good { ⌜ rows-good (now rows) ≡ true ⌝ }
     requires known { ⌜ now mix .a .row < length (now rows) ⌝ ∗ ⌜ now mix .b .row < length (now rows) ⌝ }
     requires addend { ⌜ prices-within (now mix .addend) ≡ true ⌝ }
-    requires thousand { ⌜ now mix .a .thousandths + now mix .b .thousandths ≡ 1_000 ⌝ }
+    requires thousand { ⌜ now mix .a .thousandths + now mix .b .thousandths ≡ whole ⌝ }
     ensures { λ r. ⌜ r ≡ all-pass (λ c. leb (price-over c (price c (now (rows .entry))) (Mixed (now (mix .entry)))) (most-price c)) five ⌝ }
 {
     for charge in FIVE {
@@ -85,7 +86,7 @@ fn mixed_price(rows: &[Row], mix: &Mix, charge: Charge) -> u64
     requires good { ⌜ rows-good (now rows) ≡ true ⌝ }
     requires known { ⌜ now mix .a .row < length (now rows) ⌝ ∗ ⌜ now mix .b .row < length (now rows) ⌝ }
     requires addend { ⌜ prices-within (now mix .addend) ≡ true ⌝ }
-    requires thousand { ⌜ now mix .a .thousandths + now mix .b .thousandths ≡ 1_000 ⌝ }
+    requires thousand { ⌜ now mix .a .thousandths + now mix .b .thousandths ≡ whole ⌝ }
     ensures { λ r. ⌜ r ≡ price-over charge (price charge (now (rows .entry))) (Mixed (now (mix .entry))) ⌝ }
 {
     let price_a = price_of(rows, mix.a.row, charge);

@@ -4,6 +4,7 @@ pub mod charges;
 mod check;
 pub mod estimate;
 pub mod limits;
+pub mod order;
 mod price;
 pub mod row;
 pub mod rows;

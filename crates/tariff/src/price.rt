@@ -3,13 +3,17 @@ ghost use mathlib.Core.Bool.{true};
 ghost use mathlib.Core.Path.{_≡_};
 ghost use Prim.Native.Nat.{_+_, _≤_, _<_};
 ghost use lib.ListN.{length};
-ghost use Rattle.tariff.specs.Rows.{depth, mixed-price, price, rows-good};
+ghost use Rattle.tariff.specs.Charges.{Power, most-price};
+ghost use Rattle.tariff.specs.Rows.{depth, mixed-price, price, rows-good, whole};
 use crate::charge::Charge;
 use crate::row::Row;
 use sharing::rounding::Fraction;
 use sharing::rounding::Nearest;
 use sharing::rounding::NearestRounding;
 use sharing::rounding::Rounding;
+
+// The thousandths in a whole.
+pub(crate) const WHOLE: u64 = 1_000;
 
 // The price of row `row`, by recursion over mixed rows with falling row number.
 pub(crate) fn price_of(rows: &[Row], row: usize, charge: Charge) -> u64
@@ -35,14 +39,14 @@ pub(crate) fn price_of(rows: &[Row], row: usize, charge: Charge) -> u64
 
 // Thousandths of two prices, halves up, plus the addend.
 pub(crate) fn mixed(a: u64, price_a: u64, b: u64, price_b: u64, addend: u64) -> u64
-    requires thousand { ⌜ a + b ≡ 1_000 ⌝ }
-    requires low { ⌜ «price_a» ≤ 100_000_000 ⌝ ∗ ⌜ «price_b» ≤ 100_000_000 ⌝ ∗ ⌜ addend ≤ 100_000_000 ⌝ }
+    requires thousand { ⌜ a + b ≡ whole ⌝ }
+    requires low { ⌜ «price_a» ≤ most-price Power ⌝ ∗ ⌜ «price_b» ≤ most-price Power ⌝ ∗ ⌜ addend ≤ most-price Power ⌝ }
     ensures { λ r. ⌜ r ≡ mixed-price a «price_a» b «price_b» addend ⌝ }
 {
     let number = a * price_a + b * price_b;
     Nearest.round(Fraction {
         number,
-        divisor: 1_000,
+        divisor: WHOLE,
     })
         + addend
 }
