@@ -8,7 +8,7 @@ pub mod order;
 mod price;
 pub mod row;
 pub mod rows;
-pub mod tariff;
+pub mod rules;
 #[cfg(test)]
 mod tests;
 pub mod weather;

@@ -10,7 +10,7 @@ use crate::row::MixPart;
 use crate::row::Prices;
 use crate::row::Row;
 use crate::rows::Rows;
-use crate::tariff::keep_rules;
+use crate::rules::keep_rules;
 use sharing::amount::Litres;
 use sharing::amount::Megajoules;
 use sharing::amount::MegajoulesDebug;

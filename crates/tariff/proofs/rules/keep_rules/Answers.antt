@@ -11,7 +11,7 @@ use Rattle.sharing.specs.Refusals.{refusal}
 use Rattle.sharing.specs.declared.refusal.Refusal.{Refusal}
 use Rattle.tariff.specs.Rows.{Row, keeps-rules, no-row, row-why, rows-good, rows-good-above}
 use Rattle.tariff.proofs.Prices.{good-more, good-next}
-use Rattle.tariff.proofs.tariff.keep_rules.Needs as need
+use Rattle.tariff.proofs.rules.keep_rules.Needs as need
 
 -- what the check of a row said
 kept : (rows : List Row) (i : ℕ) (r : Row) (o : Option Refusal) (b : Bool) → o ≡ refusal (row-why (take (i - 0) rows) r) → b ≡ isSome o → keeps-rules (take i rows) r ≡ not b

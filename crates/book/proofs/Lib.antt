@@ -1,0 +1,2 @@
+pub mod Crowds
+pub mod Soundness

@@ -1,0 +1,4 @@
+pub mod Limits
+pub mod Records
+pub mod Sound
+pub mod World
