@@ -190,7 +190,6 @@ later-push later_push
 later-set later_set
 le-nat le_nat
 le-within le_within
-le_of_mul-le-mul_right le_of_mul_le_mul_right
 least-is least_is
 left-with left_with
 length-all-behind length-all_behind

@@ -1,3 +1,4 @@
+#![tactic(auto)]
 // A list of calls, its run from a new book, and the law that meter and accounts agree.
 pub mod call;
 pub mod desk;

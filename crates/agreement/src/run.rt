@@ -100,7 +100,7 @@ impl Desk {
 
     // Posts the paper with a number.
     fn post<K: SharingKey, R: Rounding>(&mut self, number: usize, key: &K, rule: &R) -> Answer
-        ensures { Posts number (weight key.now) (meaning rule.now) (paper_at number (state self.old)) (state self.old) result (state self.new) }
+        ensures { Posts number (K.weight key.now) (R.meaning rule.now) (paper_at number (state self.old)) (state self.old) result (state self.new) }
     {
         if number >= self.papers.len() {
             return Answer::NoPaper;
@@ -123,7 +123,7 @@ impl Desk {
 
     // Makes one call.
     fn make<K: SharingKey, R: Rounding>(&mut self, call: &Call<K, R>) -> Answer
-        ensures { Stepped weight meaning (state self.old) call.now result (state self.new) }
+        ensures { Stepped K.weight R.meaning (state self.old) call.now result (state self.new) }
     {
         match call {
             Call::EnterRow { row } => entered(self.book.enter_row(*row)),
@@ -168,7 +168,7 @@ pub fn run<K: SharingKey, R: Rounding>(
     calls: &[Call<K, R>],
     answers: &mut [Answer],
 ) -> Desk
-    ensures { Agreement weight meaning (state desk) calls.now answers.old answers.new (state result) }
+    ensures { Agreement K.weight R.meaning (state desk) calls.now answers.old answers.new (state result) }
 {
     let count = calls.len().min(answers.len());
     for i in 0..count {

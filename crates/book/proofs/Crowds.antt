@@ -1,5 +1,5 @@
 -- Objects counted node by node.
-use Rattle.std.proofs.Common.{◌≡◌, ℕ, ◌+◌, ◌<◌, ◌≤◌, Bool, true, false, cond, eqb, ltb, leb, List, [], ◌∷◌, ◌++◌, length, get_or, take, set, replicate, count_by, sym, refl, ap, ◌∙◌, subst, ⊎_elim, arith}
+use Rattle.std.proofs.Common.{◌≡◌, ℕ, Bool, ◌+◌, ◌<◌, ◌≤◌, true, false, cond, eqb, ltb, leb, List, [], ◌∷◌, ◌++◌, length, get_or, take, set, replicate, sym, refl, ap, ◌∙◌, subst, ⊎_elim, arith}
 use Rattle.std.specs.List.{list_all, AllByRecursion as All}
 use Rattle.std.proofs.ByRecursion.{All-get_or, All-push, All-set, All-weaker}
 use Rattle.std.proofs.lemmas.List.{get_or-replicate, get_or-set_same, get_or-set_other, length-set, take_all}
@@ -9,8 +9,12 @@ use Rattle.sharing.specs.Limits.{most_objects}
 use Rattle.sharing.proofs.Passing.{fails_at, pass_at, pass_from_each}
 use Rattle.book.specs.Limits.{most_nodes}
 use Rattle.book.specs.Records.{Object}
-use Rattle.book.specs.Sound.{crowd, object_good, uncrowded}
+use Rattle.book.specs.Sound.{crowd, object_good}
 use Rattle.book.specs.World.{InUse, no_object}
+
+-- no node has too many objects
+abbrev pub uncrowded : List Object → Bool
+uncrowded objects = list_all (λ o. leb (crowd o.node objects) most_objects) objects
 
 -- an object's node, where all nodes are few
 pub node-low : (objects : List Object) (i : ℕ) → i < length objects → list_all (λ o. ltb o.node most_nodes) objects ≡ true → (get_or objects i no_object).node < most_nodes

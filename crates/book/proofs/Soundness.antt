@@ -1,5 +1,5 @@
 -- Soundness by its parts.
-use Rattle.std.proofs.Common.{◌≡◌, ℕ, ◌≤◌, min, Bool, true, false, ◌&&◌, leb, length, None, Ok, Err, Result, sym, refl, ap, ◌∙◌, arith}
+use Rattle.std.proofs.Common.{◌≡◌, ◌≤◌, min, Bool, true, false, ◌&&◌, leb, length, None, Ok, Err, Result, sym, refl, ap, ◌∙◌, arith}
 use Rattle.std.specs.List.{list_all, AllByRecursion as All}
 use Rattle.std.proofs.ByRecursion.{All-weaker}
 use Rattle.std.proofs.lemmas.Bool.{and_from, and_parts, le-leb, leb-true}
@@ -10,13 +10,23 @@ use Rattle.sharing.proofs.Passing.{all_from_pass, pass_from_all}
 use Rattle.tariff.specs.Rows.{rows_good}
 use Rattle.book.specs.Calls.{Call, Outcome, Sure}
 use Rattle.book.specs.Limits.{most_rows, most_recipients, most_nodes, most_objects_in_all, most_lines}
-use Rattle.book.specs.Sound.{fits, counts_good, crowd, line_good, node_good, object_good, recipient_good, records_good, sound, uncrowded}
+use Rattle.book.specs.Sound.{fits, counts_good, crowd, line_good, node_good, object_good, recipient_good, records_good, sound}
 use Rattle.book.specs.World.{Places, Store, World, empty, in_use}
+use Rattle.book.proofs.Crowds.{uncrowded}
+
+-- four tests and one more, as one chain
+chained : (r n o l u : Bool) → ((r && (n && (o && l))) && u) ≡ (r && (n && (o && (l && u))))
+chained false n o l u = refl
+chained true false o l u = refl
+chained true true false l u = refl
+chained true true true l u = refl
 
 -- what `sound` tests, one after the other
 pub sound-is : (w : World) (a b c d : Bool) → a ≡ counts_good w → b ≡ rows_good w.rows → c ≡ records_good w → d ≡ uncrowded w.objects → (a && (b && (c && d))) ≡ sound w
 unfolding sound
-sound-is w a b c d a-is b-is c-is d-is = rw (a-is, b-is, c-is, d-is) refl
+sound-is w a b c d a-is b-is c-is d-is = rw (a-is, b-is, c-is, d-is)
+    (ap (λ z. counts_good w && (rows_good w.rows && z))
+    (chained (list_all recipient_good w.recipients) (list_all node_good w.nodes) (list_all (object_good (in_use w)) w.objects) (list_all (line_good (in_use w)) w.lines) (uncrowded w.objects)))
 
 -- the nodes of good counts are few
 pub nodes-few : (w : World) → counts_good w ≡ true → length w.nodes ≤ most_nodes
@@ -42,9 +52,8 @@ pub record Sound (w : World) : Type 0 where
 
 -- the test says all of it
 pub parts : (w : World) → sound w ≡ true → Sound w
-unfolding sound
 parts w s =
-    let counts = and_parts (counts_good w) _ s in
+    let counts = and_parts (counts_good w) _ (sound-is w _ _ _ _ refl refl refl refl ∙ s) in
     let a = and_parts (fits w.places.rows most_rows w.rows) _ counts.0 in
     let b = and_parts (fits w.places.recipients most_recipients w.recipients) _ a.1 in
     let c = and_parts (fits w.places.nodes most_nodes w.nodes) _ b.1 in

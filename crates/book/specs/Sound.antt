@@ -74,10 +74,13 @@ records_good w =
     all_pass recipient_good w.recipients
     && (all_pass node_good w.nodes && (all_pass (object_good (in_use w)) w.objects && all_pass (line_good (in_use w)) w.lines))
 
--- no node has too many objects
-abbrev pub uncrowded : List Object → Bool
-uncrowded objects = all_pass (λ o. leb (crowd o.node objects) most_objects) objects
-
 -- sound: counts within places and limits, rows that keep the rules, names in use, numbers within limits, and no node with too many objects
 unfoldable pub sound : World → Bool
-sound w = counts_good w && (rows_good w.rows && (records_good w && uncrowded w.objects))
+sound w =
+    counts_good w
+    && (rows_good w.rows
+    && (all_pass recipient_good w.recipients
+    && (all_pass node_good w.nodes
+    && (all_pass (object_good (in_use w)) w.objects
+    && (all_pass (line_good (in_use w)) w.lines
+    && all_pass (λ o. leb (crowd o.node w.objects) most_objects) w.objects)))))

@@ -1,8 +1,9 @@
 // Whether stored tables are sound.
-ghost use Rattle.std.specs.Prelude.{◌≡◌, Bool, true, nat_lt};
+ghost use Rattle.std.specs.Prelude.{◌≡◌, Bool, true, nat_le, nat_lt};
 ghost use Rattle.std.specs.List.{list_all};
+ghost use Rattle.sharing.specs.Limits.{most_objects};
 ghost use Rattle.book.specs.Limits.{most_nodes};
-ghost use Rattle.book.specs.Sound.{amount_good, balance_good, counts_good, line_good, names_good, node_good, numbers_good, object_good, recipient_good, records_good, sound, uncrowded};
+ghost use Rattle.book.specs.Sound.{amount_good, balance_good, counts_good, crowd, line_good, names_good, node_good, numbers_good, object_good, recipient_good, records_good, sound};
 ghost use Rattle.book.specs.World.{in_use, world};
 ghost use Rattle.book.specs.declared.tables.InUse.{InUse};
 
@@ -112,7 +113,7 @@ pub fn is_balance(balance: i64) -> bool
 
 // Whether every record of a table is good.
 fn all_good<T: Stored>(items: &[T], used: InUse) -> bool
-    ensures { result ≡ list_all (good used) items.now }
+    ensures { result ≡ list_all (T.good used) items.now }
 {
     for item in items {
         if !item.is_good(used) {
@@ -132,7 +133,7 @@ pub fn lines_good(tables: &Tables, lines: &[Line]) -> bool
 // Whether no node has more objects than it may have: they are counted node by node in one pass.
 fn not_crowded(objects: &[Object]) -> bool
     requires { list_all (λ o. nat_lt o.node most_nodes) objects.now ≡ true }
-    ensures { result ≡ uncrowded objects.now }
+    ensures { result ≡ list_all (λ o. nat_le (crowd o.node objects.now) most_objects) objects.now }
 {
     let mut counts = [0usize; MOST_NODES];
     for object in objects {

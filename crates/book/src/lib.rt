@@ -1,3 +1,4 @@
+#![tactic(auto)]
 // The settlement book of one heat company: its tables, and when they are sound.
 pub mod book;
 #[cfg(test)]

@@ -1,7 +1,7 @@
 -- Why a month's heat is refused, and that it is within its limit otherwise.
-use Rattle.std.proofs.Common.{◌≡◌, ℕ, ◌+◌, ◌<◌, ◌≤◌, sym, refl, ap, ◌∙◌, subst, arith}
+use Rattle.std.proofs.Common.{◌≡◌, ℕ, ◌+◌, ◌≤◌, sym, refl, ap, ◌∙◌, subst, arith}
 use Rattle.std.proofs.lemmas.Bool.{and_from, and_parts, cond-false, cond-true, false≢true, le-leb, leb-true, lt-ltb, ltb-false, ltb-true, not_from_false, or_parts}
-use Rattle.sharing.specs.Words.{Bool, true, false, not, ◌&&◌, ◌||◌, List, [], ◌∷◌, leb, ltb, Option, Some, None, Result, Ok, Err}
+use Rattle.sharing.specs.Words.{Bool, true, false, not, ◌||◌, List, [], ◌∷◌, leb, ltb, Option, Some, None, Ok, Err}
 use Rattle.sharing.specs.Amounts.{megajoules}
 use Rattle.sharing.specs.Limits.{most_quantity}
 use Rattle.sharing.specs.Refusals.{decided, refusal, unless_refused}
@@ -14,8 +14,8 @@ use Rattle.book.specs.Limits.{month_count, most_register}
 use Rattle.book.specs.Sound.{node_good}
 use Rattle.book.specs.World.{World, node_at, unused}
 use Rattle.book.specs.declared.records.Node.{Node}
-use Rattle.clerk.specs.Fixings.{as_due, estimate_heat, fix_why, fixing_of, month_heat, rise_to}
-use Rattle.clerk.specs.Papers.{Fixing, OpenedPaper, fixing_good, given}
+use Rattle.clerk.specs.Fixings.{as_due, estimate_heat, fix_why, fixing_of, rise_to}
+use Rattle.clerk.specs.Papers.{OpenedPaper, fixing_good, given}
 
 -- what an accepted call says of its conditions and its answer
 pub granted : {A : Type 0} (why : List (Bool × Refusal)) (x y : A) → Ok x ≡ decided why y → (refusal why ≡ None) × (x ≡ y)

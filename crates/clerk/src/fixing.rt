@@ -1,5 +1,5 @@
 // Fixing a month's heat.
-ghost use Rattle.std.specs.Prelude.{◌≡◌, true, false, ◌||◌, ltb, [], ◌∷◌, Some, None, MatchResult, nat_lt};
+ghost use Rattle.std.specs.Prelude.{◌≡◌, true, false, ◌||◌, [], ◌∷◌, Some, None, MatchResult, nat_lt};
 ghost use Rattle.sharing.specs.Limits.{most_quantity};
 ghost use Rattle.sharing.specs.Refusals.{decided, refusal};
 ghost use Rattle.sharing.specs.declared.refusal.Refusal.TheVariants.{NotColder, RegisterFalls, TooMuchHeat};
@@ -78,14 +78,14 @@ fn fixed_heat(
 
 // Whether a number that is given is outside its limits.
 fn is_outside(water: u64, closing: Option<u64>, estimate: Option<Estimate>) -> bool
-    ensures* { λ r. ⌜ r ≡ (nat_lt most_quantity water || (given (λ r. ltb most_register r) closing || given estimate_outside estimate)) ⌝ }
+    ensures { result ≡ (nat_lt most_quantity water || (given (λ r. nat_lt most_register r) closing || given estimate_outside estimate)) }
 {
     water > u64::from(MOST_QUANTITY) || past_limit(closing) || past_limits(estimate)
 }
 
 // Whether a closing register passes its limit.
 fn past_limit(closing: Option<u64>) -> bool
-    ensures* { λ r. ⌜ r ≡ given (λ r. ltb most_register r) closing ⌝ }
+    ensures { result ≡ given (λ r. nat_lt most_register r) closing }
 {
     match closing {
         Some(register) => register > MOST_REGISTER,
@@ -106,7 +106,7 @@ fn past_limits(estimate: Option<Estimate>) -> bool
 
 // What a closing register rises by over the node's.
 fn rise_of(node: &Node, closing: Option<u64>) -> Result<u64, Refusal>
-    ensures* { λ r. ⌜ r ≡ decided ((given (λ r. ltb r node.now.register) closing, RegisterFalls) ∷ []) (rise_to node.now closing) ⌝ }
+    ensures { result ≡ decided ((given (λ r. nat_lt r node.now.register) closing, RegisterFalls) ∷ []) (rise_to node.now closing) }
 {
     match closing {
         Some(register) => {
@@ -132,7 +132,7 @@ fn is_due(node: &Node, closing: Option<u64>, estimate: Option<Estimate>) -> bool
 // The heat that an estimate comes to, where there is one.
 fn heat_of(estimate: Option<Estimate>) -> Result<u64, Refusal>
     requires { given estimate_outside estimate ≡ false }
-    ensures { result ≡ decided ((given estimate_warm estimate, NotColder) ∷ (given (λ e. ltb most_quantity (estimated e)) estimate, TooMuchHeat) ∷ []) (estimate_heat estimate) }
+    ensures { result ≡ decided ((given estimate_warm estimate, NotColder) ∷ (given (λ e. nat_lt most_quantity (estimated e)) estimate, TooMuchHeat) ∷ []) (estimate_heat estimate) }
 {
     match estimate {
         Some(one) => match estimated_heat(&one) {

@@ -1,3 +1,4 @@
+#![tactic(auto)]
 // The clerk's calls: months are opened, fixed and posted.
 pub mod fixed;
 pub mod fixing;

@@ -1,3 +1,4 @@
+#![tactic(auto)]
 // Imports a readings file from standard input into a book of one node, and prints the journal.
 use agreement::call::{Answer, Call};
 use agreement::desk::Desk;

@@ -1,5 +1,5 @@
 -- Conditions of calls that follow one another.
-use Rattle.std.proofs.Common.{◌≡◌, ℕ, Bool, true, false, cond, List, [], ◌∷◌, ◌++◌, Some, None, Ok, Err, Option, refl, arith}
+use Rattle.std.proofs.Common.{◌≡◌, ℕ, Bool, true, false, cond, List, [], ◌∷◌, ◌++◌, Some, None, Ok, Option, refl, arith}
 use Rattle.sharing.specs.Refusals.{decided, refusal, unless_refused}
 use Rattle.sharing.specs.declared.refusal.Refusal.{Refusal}
 

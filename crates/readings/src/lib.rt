@@ -1,3 +1,4 @@
+#![tactic(auto)]
 // The readings file, what an import of it answers, and the journal listing.
 pub mod answer;
 pub mod columns;

@@ -1,5 +1,5 @@
 -- Every sharing is fair.
-use Rattle.std.proofs.Common.{◌≡◌, ℕ, ◌+◌, ◌*◌, ◌/◌, ◌<◌, ◌≤◌, false, ltb, leb, List, [], ◌∷◌, map, length, get_or, None, sum, sym, refl, ap, ◌∙◌, ⊎_elim, mul-le-mul_right, add-mul, mul-le-mul, mul-zero, mul-add, div-mul-le_self, arith}
+use Rattle.std.proofs.Common.{◌≡◌, ℕ, ◌+◌, ◌*◌, ◌/◌, ◌<◌, ◌≤◌, false, leb, List, [], ◌∷◌, map, length, get_or, None, sum, sym, ap, ◌∙◌, ⊎_elim, mul-le-mul_right, add-mul, mul-le-mul, mul-zero, mul-add, div-mul-le_self, arith}
 use native.Mathlib.Nat.{lt-div-mul-add}
 use Rattle.std.specs.List.{AllByRecursion as All}
 use Rattle.std.proofs.lemmas.List.{get_or-map, length-map}
@@ -9,8 +9,8 @@ use Rattle.sharing.specs.Cuts.{running, cut, Cuts, no_divisor, shared}
 use Rattle.sharing.specs.Limits.{most_quantity, most_objects, most_dividend, most_divisor}
 use Rattle.sharing.specs.Refusals.{refusal}
 use Rattle.sharing.specs.Rounds.{Rule, Rounds}
-use Rattle.sharing.specs.Sharings.{sharing_why, Close, Fair}
-use Rattle.sharing.proofs.Parts.{sum-cons, running_more, running-le, rounds_rise, cuts}
+use Rattle.sharing.specs.Sharings.{sharing_why, Fair}
+use Rattle.sharing.proofs.Parts.{sum-cons, running_more, running-le, cuts}
 use Rattle.sharing.proofs.Passing.{all_from_pass}
 use Rattle.sharing.proofs.Picked.{none_hold}
 

@@ -1,5 +1,5 @@
 -- Which refusal is answered.
-use Rattle.std.proofs.Common.{◌≡◌, ℕ, suc, ◌+◌, ◌<◌, ◌≤◌, sym, refl, ap, ◌∙◌, subst, inl, inr, arith}
+use Rattle.std.proofs.Common.{◌≡◌, ℕ, ◌<◌, ◌≤◌, sym, refl, ap, ◌∙◌, subst, inl, inr, arith}
 use Rattle.std.proofs.lemmas.Bool.{cond-false}
 use Rattle.sharing.specs.Refusals.{Refusal, number, refusal, unless_refused, decided, Least, Smallest}
 use Rattle.sharing.specs.Words.{Bool, true, false, cond, List, [], ◌∷◌, Option, Some, None, Ok, Err, All}

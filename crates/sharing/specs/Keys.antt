@@ -1,5 +1,5 @@
 -- The weights that sharing keys give to objects.
-use Rattle.sharing.specs.Words.{Bool, cond, not, ◌&&◌, ◌||◌, List, [], ◌∷◌, map, ℕ, ◌≤◌, eqb, leb, ltb, length, Option, Some, None, option_is_some, valueOr, found, all_pass, sum}
+use Rattle.sharing.specs.Words.{Bool, cond, not, ◌&&◌, ◌||◌, List, [], ◌∷◌, map, ℕ, ◌≤◌, eqb, leb, ltb, length, Option, Some, None, option_is_some, valueOr, IfSome, all_pass, sum}
 use Rattle.sharing.specs.Limits.{most_quantity, most_power, most_area, most_objects}
 use Rattle.sharing.specs.Refusals.{Refusal, OutOfRange, NodeFull, NoWeight}
 use Rattle.sharing.specs.declared.key.Basis.{Basis}
@@ -28,7 +28,7 @@ by_sub_meter (r ∷ rest) object power area = cond (eqb r.object object) (allowe
 
 -- what every key must show: its weights are within the limit wherever power and area are within theirs
 abbrev pub Light : {X : Type 0} → (X → Key) → Type 0
-Light {X} weight = (x : X) (object power area : ℕ) → power ≤ most_power → area ≤ most_area → found (weight x object power area) (λ w. w ≤ most_quantity)
+Light {X} weight = (x : X) (object power area : ℕ) → power ≤ most_power → area ≤ most_area → IfSome (weight x object power area) (λ w. w ≤ most_quantity)
 
 -- the weight that a key has for an object
 abbrev pub asked : Key → Basis → Option ℕ

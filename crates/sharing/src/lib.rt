@@ -1,3 +1,4 @@
+#![tactic(auto)]
 // Sharing an amount among objects so that nothing is lost, and the refusals of the whole product.
 pub mod amount;
 pub mod cut;

@@ -18,8 +18,8 @@ pub fn shares<R: Rounding, U: Amount>(
     total: U,
     weights: &[u32],
 ) -> Result<[U; MOST_OBJECTS], Refusal>
-    ensures value { result ≡ decided (sharing_why (units total) weights.now) (padded (many 0) (map many (shared (meaning rule.now) (units total) weights.now))) }
-    ensures fair { IfOk result (λ ps. Fair (meaning rule.now) (units total) weights.now (map units (take (length weights.now) ps))) }
+    ensures value { result ≡ decided (sharing_why (U.units total) weights.now) (padded (U.many 0) (map U.many (shared (R.meaning rule.now) (U.units total) weights.now))) }
+    ensures fair { IfOk result (λ ps. Fair (R.meaning rule.now) (U.units total) weights.now (map U.units (take (length weights.now) ps))) }
 {
     if let Some(refusal) = sharing_refusal(total.count(), weights) {
         return Err(refusal);

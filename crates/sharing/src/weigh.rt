@@ -13,7 +13,7 @@ use crate::share::weight_of;
 
 // The weight of each object by the key, in their order.
 pub fn weigh<K: SharingKey>(key: &K, objects: &[Basis]) -> Result<[u32; MOST_OBJECTS], Refusal>
-    ensures value { result ≡ decided (weighing_why (weight key.now) objects.now) (padded 0 (weights_of (weight key.now) objects.now)) }
+    ensures value { result ≡ decided (weighing_why (K.weight key.now) objects.now) (padded 0 (weights_of (K.weight key.now) objects.now)) }
     ensures small { IfOk result (λ ws. All (λ w. w ≤ most_quantity) (take (length objects.now) ws)) }
 {
     if !all_in_range(objects) {
@@ -46,7 +46,7 @@ fn all_in_range(objects: &[Basis]) -> bool
 // The weights, unless an object has none.
 fn weights_by<K: SharingKey>(key: &K, objects: &[Basis]) -> Option<[u32; MOST_OBJECTS]>
     requires { length objects.now ≤ most_objects }
-    ensures { result ≡ (if list_all (λ o. is_some (asked (weight key.now) o)) objects.now then Some (padded 0 (weights_of (weight key.now) objects.now)) else None) }
+    ensures { result ≡ (if list_all (λ o. is_some (asked (K.weight key.now) o)) objects.now then Some (padded 0 (weights_of (K.weight key.now) objects.now)) else None) }
 {
     let mut weights = [0u32; MOST_OBJECTS];
     for (i, object) in objects.iter().enumerate() {

@@ -1,5 +1,5 @@
 -- Temperatures stay within their limit through the rounded operations, and their tenths become whole numbers without loss.
-use Rattle.std.proofs.Common.{◌≡◌, ℕ, zero, suc, ◌+◌, ◌-◌, ◌*◌, ◌/◌, ◌^◌, ◌<◌, ◌≤◌, min, Bool, true, false, cond, ◌&&◌, ◌||◌, T, eqb, ltb, pos, neg_ℤ, sym, refl, ap, ◌∙◌, subst, true≢false, lt_of_lt_of_le, mul-le-mul_right, mul_assoc, div-lt_iff_lt-mul, mul-pos, mul-one, mul_right_comm, le_of_mul_le_mul_right, mul-div_cancel, arith, lit≤, pow_mono, shl_lt}
+use Rattle.std.proofs.Common.{◌≡◌, ℕ, zero, suc, ◌+◌, ◌-◌, ◌*◌, ◌/◌, ◌^◌, ◌<◌, ◌≤◌, min, Bool, true, false, cond, ◌&&◌, ◌||◌, T, eqb, ltb, pos, neg_ℤ, sym, refl, ap, ◌∙◌, subst, true≢false, lt_of_lt_of_le, mul-le-mul_right, mul_assoc, div-lt_iff_lt-mul, mul-pos, mul-one, mul_right_comm, le_of_mul-le-mul_right, mul-div_cancel, arith, lit≤, pow_mono, shl_lt}
 use lib.Ieee.{Float, Format, nan, inf, fin, binary64, prec, low, emax, up, down, odd, units, round, unlike, sum, add, mul, div, lt, eq, le, neg, of_bits, to_signed}
 use lib.Ieee.Exact.{HasValue, round_exact}
 use lib.Ieee.Order.{round_mono}
@@ -101,7 +101,7 @@ le_within (fin s m e) (fin false n d) k h v =
     let c = le_nat (m * up e * down d) (n * up d * down e) _ h in
     let w : n * up d ≡ k * down d = sym (mul-one (n * up d)) ∙ v.1 in
     let r : n * up d * down e ≡ k * down e * down d = ap (λ (x : ℕ). x * down e) w ∙ mul_right_comm k (down d) (down e) in
-    le_of_mul_le_mul_right {m = m * up e} {n = k * down e} {k = down d} (omega (arith, c, r)) (down_pos d)
+    le_of_mul-le-mul_right {m = m * up e} {n = k * down e} {k = down d} (omega (arith, c, r)) (down_pos d)
 
 signs : (s : Bool) (y : Float) (k : ℕ) → Within k (float_with_sign false y) → Within k (float_with_sign s y)
 unfolding float_with_sign

@@ -1,5 +1,5 @@
 -- The prices of rows that keep the rules.
-use Rattle.std.proofs.Common.{◌≡◌, ℕ, zero, suc, ◌+◌, ◌*◌, ◌<◌, ◌≤◌, max, Bool, true, false, not, ◌&&◌, eqb, ltb, leb, List, [], ◌∷◌, ◌++◌, length, get_or, take, drop, is_some, Some, None, Option, sym, refl, ap, ◌∙◌, mul-le-mul_left, arith}
+use Rattle.std.proofs.Common.{◌≡◌, ℕ, zero, suc, ◌+◌, ◌*◌, ◌<◌, ◌≤◌, max, Bool, true, false, not, ◌&&◌, leb, List, [], ◌∷◌, ◌++◌, length, get_or, take, drop, is_some, Some, None, Option, sym, refl, ap, ◌∙◌, mul-le-mul_left, arith}
 use Rattle.std.specs.List.{list_all, AllByRecursion as All}
 use Rattle.std.proofs.lemmas.List.{append_assoc, append-nil, at_drop_more, length-take-le, take_more}
 use Rattle.std.proofs.lemmas.Bool.{and_from, and_parts, false≢true, eqb-true, leb-true, ltb-true, ltb-false, not-false, or_parts}
@@ -8,7 +8,7 @@ use Rattle.sharing.specs.declared.refusal.Refusal.{Refusal}
 use Rattle.sharing.proofs.Passing.{all_from_pass}
 use Rattle.sharing.proofs.Picked.{none_hold}
 use Rattle.tariff.specs.Charges.{Charge, Power, Fixed, Energy, Variable, Carrier, five, most_price}
-use Rattle.tariff.specs.Rows.{Row, Plain, Mixed, Mix, Prices, price_in, price_over, depth_over, price, depth, most_depth, prices_within, parts_known, row_why, keeps_rules, mixed_price, worked_out, no_row, rows_good_above, rows_good, whole, Price-law}
+use Rattle.tariff.specs.Rows.{Row, Plain, Mixed, Mix, Prices, price_in, price_over, depth_over, price, depth, most_depth, prices_within, row_why, keeps_rules, mixed_price, worked_out, no_row, rows_good_above, rows_good, whole, Price-law}
 use Rattle.tariff.proofs.WorkedOut.{worked_out-below, worked_out-at}
 
 none_is : (o : Option Refusal) → not (is_some o) ≡ true → o ≡ None

@@ -1,3 +1,4 @@
+#![tactic(auto)]
 // What an object is charged: rows of prices, the charges of a month, the estimate for a damaged meter, the weather.
 pub mod charge;
 pub mod charges;

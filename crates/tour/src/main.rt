@@ -1,5 +1,5 @@
-// A tour: a book is filled by a list of calls, one node's month is divided among three objects and charged, and each step is printed.
-mod calls;
+#![tactic(auto)]
+// A tour: one node's month is divided among three objects and charged, and each step is printed.
 mod damage;
 mod month;
 mod prices;
@@ -18,7 +18,6 @@ fn main(rt: HostRuntime) -> Result<(), Stop> {
 }
 
 fn tour(rt: &HostRuntime) -> Result<(), Stop> {
-    calls::make(rt)?;
     let uses = month::divide(rt)?;
     prices::charge(rt, &uses)?;
     damage::estimate(rt)

@@ -2,7 +2,7 @@
 use sharing::refusal::Refusal;
 use std::io;
 
-#[derive(Drop)]
+#[derive(Debug, Drop)]
 pub enum Stop {
     Output(io::Error),
     Refused(Refusal),

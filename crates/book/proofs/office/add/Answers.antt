@@ -4,6 +4,5 @@ use Rattle.book.proofs.office.add.Goals as goal
 
 pub returns-in-Err : goal.returns-in-Err
 returns-in-Err g c =
-    let v = c.args.table.now in
     let told = c.in-Err.ensures in
-    (refl, told.items, told.capacity, omega (arith, told.cases, length_push (vec_items v) c.args.item, v.ok.0))
+    (refl, told.items, told.capacity, omega (arith, told.full, length_push (vec_items c.args.table.now) c.args.item))

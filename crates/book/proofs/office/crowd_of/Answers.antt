@@ -8,8 +8,8 @@ use Rattle.book.specs.World.{no_object}
 use Rattle.book.proofs.office.crowd_of.Goals as goal
 use Rattle.book.proofs.office.crowd_of.Goals.{then-object-node, else-object-node}
 
-pub overflow-add-count : goal.overflow-add-count
-overflow-add-count c =
+pub overflow_add-count : goal.overflow_add-count
+overflow_add-count c =
     let few : crowd c.args.node (take c.loop-object.object-index c.args.objects.now) ≤ length (take c.loop-object.object-index c.args.objects.now) = count_by-le-length _ _ in
     search (rules, length-take-le)
 

@@ -1,4 +1,4 @@
-use Rattle.std.proofs.Common.{◌≡◌, ◌<◌, min, false, length, vec_items, sym, ap, ◌∙◌, arith}
+use Rattle.std.proofs.Common.{◌≡◌, false, vec_items, sym, ap, ◌∙◌, arith}
 use Rattle.std.proofs.lemmas.Bool.{cond-false, lt-leb}
 use Rattle.sharing.proofs.Picked.{refusal_is}
 use Rattle.sharing.specs.Refusals.{refusal}
@@ -8,8 +8,8 @@ use Rattle.book.specs.World.{full, world}
 use Rattle.book.proofs.Soundness.{parts}
 use Rattle.book.proofs.office.row_refusal.Goals as goal
 
-pub invariant-of-rows : goal.invariant-of-rows
-invariant-of-rows c = (ap rows_good c.deref.ensures.value ∙ (parts (world c.args.tables.now) c.requires).rows, tt)
+pub invariant_of-rows : goal.invariant_of-rows
+invariant_of-rows c = record { good = ap rows_good c.deref.ensures.value ∙ (parts (world c.args.tables.now) c.requires).rows }
 
 pub returns-in-Err : goal.returns-in-Err
 returns-in-Err c =

@@ -6,12 +6,12 @@ use Rattle.clerk.specs.Papers.{fixing_good}
 use Rattle.clerk.proofs.Heats.{fixing_kept, granted}
 use Rattle.clerk.proofs.fixing.fix.Goals as goal
 
-pub invariant-of-result : goal.invariant-of-result
-invariant-of-result c =
+pub invariant_of-result : goal.invariant_of-result
+invariant_of-result c =
     let w = world c.args.book.now.tables in
     let why = fix_why c.args.paper c.args.water c.args.closing c.args.estimate w in
     let told = granted why c.in-Ok.fixing (fixing_of c.args.paper c.args.water c.args.closing c.args.estimate w) c.in-Ok.ensures in
-    (ap fixing_good told.1 ∙ fixing_kept c.args.paper c.args.water c.args.closing c.args.estimate w told.0, tt)
+    record { good = ap fixing_good told.1 ∙ fixing_kept c.args.paper c.args.water c.args.closing c.args.estimate w told.0 }
 
 pub returns-in-Ok : goal.returns-in-Ok
 returns-in-Ok c =

@@ -11,40 +11,40 @@ use Rattle.clerk.specs.Fixings.{estimate_heat, fix_why, fixing_of, rise_to}
 use Rattle.clerk.proofs.Heats.{carried_low, fix_refused, granted, heat-low, heat-why, inside, rise-low, rise-why}
 use Rattle.clerk.proofs.fixing.fixed_heat.Goals as goal
 
-pub heat-of-requires : goal.heat-of-requires
-heat-of-requires c = (inside c.args.water c.args.closing c.args.estimate (sym c.if-is-outside.ensures)).estimate-in
+pub heat_of-requires : goal.heat_of-requires
+heat_of-requires c = (inside c.args.water c.args.closing c.args.estimate (sym c.if-is_outside.ensures)).estimate-in
 
-pub returns-in-err-estimated : goal.returns-in-err-estimated
-returns-in-err-estimated c =
+pub returns-in_err-estimated : goal.returns-in_err-estimated
+returns-in_err-estimated c =
     let t = c.args.tables.now in
     let paper = c.args.paper.now in
     let n = c.index.result.now in
-    let f = c.in-err-estimated.field-0.0 in
+    let f = c.in_err-estimated.field-0.0 in
     let why = fix_why paper c.args.water c.args.closing c.args.estimate (world t) in
     let at = get_or_read_under (world t).nodes paper.node _ n (new_node 0 0) c.index.ensures (omega arith) t.nodes.ok.0 in
-    let up = (granted (rise-why n c.args.closing) c.in-ok-risen.risen (rise_to n c.args.closing) c.in-ok-risen.ensures).0 in
-    let picked = refusal_is (heat-why c.args.estimate) f (estimate_heat c.args.estimate) c.in-err-estimated.ensures in
-    let p = err_from_is_err_and c.from-residual-in-err-estimated.result c.from-residual-in-err-estimated.ensures.1 in
+    let up = (granted (rise-why n c.args.closing) c.in_ok-risen.risen (rise_to n c.args.closing) c.in_ok-risen.ensures).0 in
+    let picked = refusal_is (heat-why c.args.estimate) f (estimate_heat c.args.estimate) c.in_err-estimated.ensures in
+    let p = err_from_is_err_and c.from_residual-in_err-estimated.result c.from_residual-in_err-estimated.ensures.1 in
     p.1 ∙ ap Err p.2
     ∙ refused why f (fixing_of paper c.args.water c.args.closing c.args.estimate (world t))
-    (fix_refused paper c.args.water c.args.closing c.args.estimate (world t) n f at (lt-leb _ _ (omega (arith, t.nodes.ok.0))) (sym c.if-is-outside.ensures)
-    (none_hold (rise-why n c.args.closing) up).0 (sym c.if-not-is-due.ensures) picked)
+    (fix_refused paper c.args.water c.args.closing c.args.estimate (world t) n f at (lt-leb _ _ (omega (arith, t.nodes.ok.0))) (sym c.if-is_outside.ensures)
+    (none_hold (rise-why n c.args.closing) up).0 (sym c.if-not-is_due.ensures) picked)
 
-pub overflow-add-heat : goal.overflow-add-heat
-overflow-add-heat c =
+pub overflow_add-heat : goal.overflow_add-heat
+overflow_add-heat c =
     let t = c.args.tables.now in
     let n = c.index.result.now in
-    let given = inside c.args.water c.args.closing c.args.estimate (sym c.if-is-outside.ensures) in
-    let low = rise-low n c.args.closing c.in-ok-risen.risen given.closing-low c.in-ok-risen.ensures in
+    let given = inside c.args.water c.args.closing c.args.estimate (sym c.if-is_outside.ensures) in
+    let low = rise-low n c.args.closing c.in_ok-risen.risen given.closing-low c.in_ok-risen.ensures in
     let good = ap node_good c.index.ensures ∙ All-get_or _ (world t).nodes c.args.paper.now.node n (omega (arith, t.nodes.ok.0)) (parts (world t) c.requires).nodes in
     omega (arith, low, c.from.ensures, carried_low n good)
 
-pub overflow-add-heat-2 : goal.overflow-add-heat-2
-overflow-add-heat-2 c =
+pub overflow_add-heat-2 : goal.overflow_add-heat-2
+overflow_add-heat-2 c =
     let t = c.args.tables.now in
     let n = c.index.result.now in
-    let given = inside c.args.water c.args.closing c.args.estimate (sym c.if-is-outside.ensures) in
-    let low = rise-low n c.args.closing c.in-ok-risen.risen given.closing-low c.in-ok-risen.ensures in
-    let little = heat-low c.args.estimate c.in-ok-estimated.estimated c.in-ok-estimated.ensures in
+    let given = inside c.args.water c.args.closing c.args.estimate (sym c.if-is_outside.ensures) in
+    let low = rise-low n c.args.closing c.in_ok-risen.risen given.closing-low c.in_ok-risen.ensures in
+    let little = heat-low c.args.estimate c.in_ok-estimated.estimated c.in_ok-estimated.ensures in
     let good = ap node_good c.index.ensures ∙ All-get_or _ (world t).nodes c.args.paper.now.node n (omega (arith, t.nodes.ok.0)) (parts (world t) c.requires).nodes in
     omega (arith, low, little, c.from.ensures, carried_low n good)

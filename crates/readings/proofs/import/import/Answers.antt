@@ -1,4 +1,4 @@
-use Rattle.std.proofs.Common.{◌≡◌, ◌+◌, length, drop, Ok, sym, refl, ap, ◌∙◌, subst, arith}
+use Rattle.std.proofs.Common.{◌+◌, length, drop, sym, ap, subst, arith}
 use Rattle.book.specs.World.{store}
 use Rattle.readings.specs.Imports.{Begins, Taken, TakesLine}
 use Rattle.readings.specs.Formats.{reading_of}
@@ -6,14 +6,14 @@ use Rattle.readings.specs.Texts.{lines_from, lines_left, text}
 use Rattle.readings.proofs.Imported.{read_off, taken_few, takes-err, takes-ok}
 use Rattle.readings.proofs.import.import.Goals as goal
 
-pub overflow-add-taken : goal.overflow-add-taken
-overflow-add-taken c =
+pub overflow_add-taken : goal.overflow_add-taken
+overflow_add-taken c =
     let read = read_off _ _ _ c.in-Some.ensures.line c.next.ensures.rest in
     let few = taken_few c.args.file.now _ _ _ _ _ c.in-Ok.ensures.1 read c.loop-line.invariant.1 in
     omega arith
 
-pub overflow-add-taken-in-Err-take : goal.overflow-add-taken-in-Err-take
-overflow-add-taken-in-Err-take c =
+pub overflow_add-taken-in-Err-take : goal.overflow_add-taken-in-Err-take
+overflow_add-taken-in-Err-take c =
     let read = read_off _ _ _ c.in-Some.ensures.line c.next.ensures.rest in
     let few = taken_few c.args.file.now _ _ _ _ _ c.in-Ok.ensures.1 read c.loop-line.invariant.1 in
     omega arith

@@ -6,10 +6,10 @@ use Rattle.sharing.proofs.Padding.{mapped_more, mapped_all}
 use Rattle.sharing.proofs.Passing.{one_fails, one_passes, none_fails}
 use Rattle.sharing.proofs.weigh.weights_by.Goals as goal
 
-pub returns-in-default : goal.returns-in-default
-returns-in-default g c =
+pub returns-in_default : goal.returns-in_default
+returns-in_default g c =
     let has : Basis → Bool = λ o. is_some (asked (g.K.SharingKey.weight c.args.key.now) o) in
-    sym (cond-false _ _ _ (sym c.loop-i.invariant.0 ∙ one_fails has c.args.objects.now c.loop-i.i _ c.loop-i-test.true (ap is_some (sym c.ask.ensures ∙ c.in-default.is))))
+    sym (cond-false _ _ _ (sym c.loop-i.invariant.0 ∙ one_fails has c.args.objects.now c.loop-i.i _ c.loop-i-test.true (ap is_some (sym c.ask.ensures ∙ c.in_default.is))))
 
 pub loop-i-preserved : goal.loop-i-preserved
 loop-i-preserved g c =

@@ -9,14 +9,14 @@ returns-in-Plain t c =
     let charge = c.args.charge in
     c.of.ensures ∙ sym (price-is rows c.requires.good c.args.row c.requires.within charge _ ∙ ap (price_over charge (price charge rows)) c.in-Plain.is)
 
-pub price-of-price-a-requires : goal.price-of-price-a-requires
-price-of-price-a-requires t c =
+pub price_of-price_a-requires : goal.price_of-price_a-requires
+price_of-price_a-requires t c =
     let lower = mixed_at c.args.rows.now c.requires.good c.args.row c.requires.within c.in-Mixed.mix _ c.in-Mixed.is in
     let a = lower.0 in
     search rules
 
-pub price-of-price-b-requires : goal.price-of-price-b-requires
-price-of-price-b-requires t c =
+pub price_of-price_b-requires : goal.price_of-price_b-requires
+price_of-price_b-requires t c =
     let lower = mixed_at c.args.rows.now c.requires.good c.args.row c.requires.within c.in-Mixed.mix _ c.in-Mixed.is in
     let b = lower.1 in
     search rules
@@ -29,7 +29,7 @@ mixed-requires t c =
     record {
       thousand = lower.3;
       low = parts_low c.args.charge rows c.requires.good m (omega (arith, lower.0, c.requires.within)) (omega (arith, lower.1, c.requires.within)) lower.2
-          _ _ _ c.price-of-price-a.ensures c.price-of-price-b.ensures c.of-in-Mixed.ensures;
+          _ _ _ c.price_of-price_a.ensures c.price_of-price_b.ensures c.of-in-Mixed.ensures;
     }
 
 pub returns-in-Mixed : goal.returns-in-Mixed
@@ -39,5 +39,5 @@ returns-in-Mixed t c =
     let m = c.in-Mixed.mix in
     let lower = mixed_at rows c.requires.good c.args.row c.requires.within m _ c.in-Mixed.is in
     parts-mixed charge rows c.requires.good m (omega (arith, lower.0, c.requires.within)) (omega (arith, lower.1, c.requires.within)) lower.2
-    _ _ _ c.price-of-price-a.ensures c.price-of-price-b.ensures c.of-in-Mixed.ensures c.mixed.result c.mixed.ensures
+    _ _ _ c.price_of-price_a.ensures c.price_of-price_b.ensures c.of-in-Mixed.ensures c.mixed.result c.mixed.ensures
     ∙ sym (price-is rows c.requires.good c.args.row c.requires.within charge _ ∙ ap (price_over charge (price charge rows)) c.in-Mixed.is)

@@ -1,4 +1,4 @@
 use Rattle.tariff.proofs.price.+price_of.Given as goal
 
-abbrev pub decreases-price-of : goal.decreases-price-of
-decreases-price-of l = l.row
+abbrev pub decreases-price_of : goal.decreases-price_of
+decreases-price_of l = l.row

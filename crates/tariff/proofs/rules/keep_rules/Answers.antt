@@ -11,14 +11,14 @@ use Rattle.tariff.proofs.rules.keep_rules.Goals as goal
 kept : (rows : List Row) (i : ℕ) (r : Row) (o : Option Refusal) (b : Bool) → o ≡ refusal (row_why (take (i - 0) rows) r) → b ≡ is_some o → keeps_rules (take i rows) r ≡ not b
 kept rows i r o b is told = ap not (ap (λ n. is_some (refusal (row_why (take n rows) r))) (sym (sub-zero i)) ∙ sym (told ∙ ap is_some is))
 
-pub row-refusal-requires : goal.row-refusal-requires
-row-refusal-requires c = ap (λ n. rows_good (take n c.args.rows.now)) (sub-zero c.loop-i.i) ∙ c.loop-i.invariant.0
+pub row_refusal-requires : goal.row_refusal-requires
+row_refusal-requires c = ap (λ n. rows_good (take n c.args.rows.now)) (sub-zero c.loop-i.i) ∙ c.loop-i.invariant.0
 
-pub returns-then-is-some : goal.returns-then-is-some
-returns-then-is-some c =
+pub returns-then-is_some : goal.returns-then-is_some
+returns-then-is_some c =
     let rows = c.args.rows.now in
     let i = c.loop-i.i in
-    let no = kept rows i (get_or rows i no_row) _ _ c.row-refusal.ensures c.if-is-some.ensures in
+    let no = kept rows i (get_or rows i no_row) _ _ c.row_refusal.ensures c.if-is_some.ensures in
     sym (good_next rows i no_row c.loop-i-test.true ∙ ap (λ b. b && rows_good_above (take (i + 1) rows) (drop (i + 1) rows)) no) ∙ c.loop-i.invariant.1
 
 pub loop-i-preserved : goal.loop-i-preserved
@@ -26,7 +26,7 @@ loop-i-preserved c =
     let rows = c.args.rows.now in
     let i = c.loop-i.i in
     let within = c.loop-i-test.true in
-    let yes = kept rows i (get_or rows i no_row) _ _ c.row-refusal.ensures c.if-is-some.ensures in (
+    let yes = kept rows i (get_or rows i no_row) _ _ c.row_refusal.ensures c.if-is_some.ensures in (
       good_more rows i no_row within c.loop-i.invariant.0 yes,
       sym (good_next rows i no_row within ∙ ap (λ b. b && rows_good_above (take (i + 1) rows) (drop (i + 1) rows)) yes) ∙ c.loop-i.invariant.1,
     )

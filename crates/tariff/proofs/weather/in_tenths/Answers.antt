@@ -6,7 +6,7 @@ use Rattle.tariff.proofs.weather.in_tenths.Goals as goal
 
 pub returns : goal.returns
 returns c =
-    let r = c.saturating-f64-to-i32.result in
+    let r = c.saturating_f64_to_i32.result in
     let fits : SFits w32 r = search rules in
     let whole = tenths-whole c.args.celsius c.requires in
     let same : r ≡ tenths c.args.celsius = cc in

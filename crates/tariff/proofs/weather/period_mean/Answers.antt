@@ -5,19 +5,19 @@ use Rattle.sharing.specs.declared.refusal.Refusal.{Refusal}
 use Rattle.tariff.specs.Weather.{Bounded}
 use Rattle.tariff.proofs.Period.{accepted_bounded, one_day, no_more, bad_line, no_day, some_day}
 use Rattle.tariff.proofs.weather.period_mean.Goals as goal
-use Rattle.tariff.proofs.weather.period_mean.Goals.{in-Some, in-default}
+use Rattle.tariff.proofs.weather.period_mean.Goals.{in-Some, in_default}
 
-pub returns-in-err-tenths : goal.returns-in-err-tenths
-returns-in-err-tenths c =
-    let p = err_from_is_err_and c.from-residual.result c.from-residual.ensures.1 in
+pub returns-in_err-tenths : goal.returns-in_err-tenths
+returns-in_err-tenths c =
+    let p = err_from_is_err_and c.from_residual.result c.from_residual.ensures.1 in
     record {
-      value = p.1 ∙ ap (λ (f : Refusal). Err f) p.2 ∙ bad_line c.args.lines.now c.loop-line.line-index _ _ c.loop-line.invariant _ _ c.loop-line-test.true c.in-err-tenths.ensures;
-      within = IfOk-from_err c.from-residual.result Bounded c.from-residual.ensures.0;
+      value = p.1 ∙ ap (λ (f : Refusal). Err f) p.2 ∙ bad_line c.args.lines.now c.loop-line.line-index _ _ c.loop-line.invariant _ _ c.loop-line-test.true c.in_err-tenths.ensures;
+      within = IfOk-from_err c.from_residual.result Bounded c.from_residual.ensures.0;
     }
 
-pub overflow-add-sum : goal.overflow-add-sum
-overflow-add-sum c =
-    let bounded = accepted_bounded _ _ c.in-Some.tenths c.in-ok-tenths.ensures c.in-Some.is in
+pub overflow_add-sum : goal.overflow_add-sum
+overflow_add-sum c =
+    let bounded = accepted_bounded _ _ c.in-Some.tenths c.in_ok-tenths.ensures c.in-Some.is in
     omega (arith, ints, c.loop-line.invariant.few)
 
 pub loop-line-preserved : goal.loop-line-preserved
@@ -26,10 +26,10 @@ loop-line-preserved c =
     let i = c.loop-line.line-index in
     elim c.match-branch-2.branch [
       | in-Some w ↦
-          let bounded = accepted_bounded _ _ w.in-Some.tenths c.in-ok-tenths.ensures w.in-Some.is in
-          one_day ls i _ _ c.loop-line.invariant _ _ w.in-Some.tenths _ _ c.loop-line-test.true c.in-ok-tenths.ensures w.in-Some.is (omega (arith, ints, w.sum-is)) w.days-is
-      | in-default w ↦
-          no_more ls i _ _ c.loop-line.invariant _ _ _ _ c.loop-line-test.true c.in-ok-tenths.ensures w.in-default.is w.sum-is w.days-is
+          let bounded = accepted_bounded _ _ w.in-Some.tenths c.in_ok-tenths.ensures w.in-Some.is in
+          one_day ls i _ _ c.loop-line.invariant _ _ w.in-Some.tenths _ _ c.loop-line-test.true c.in_ok-tenths.ensures w.in-Some.is (omega (arith, ints, w.sum-is)) w.days-is
+      | in_default w ↦
+          no_more ls i _ _ c.loop-line.invariant _ _ _ _ c.loop-line-test.true c.in_ok-tenths.ensures w.in_default.is w.sum-is w.days-is
     ]
 
 pub returns-then-days-eq0 : goal.returns-then-days-eq0
@@ -40,9 +40,9 @@ returns-then-days-eq0 c = record {
 
 pub returns : goal.returns
 returns c =
-    let fits : SFits w32 c.rounded-mean.result = search rules in
-    let back = to_z-of_z w32 c.rounded-mean.result fits in
+    let fits : SFits w32 c.rounded_mean.result = search rules in
+    let back = to_z-of_z w32 c.rounded_mean.result fits in
     record {
-      value = some_day c.args.lines.now c.loop-line.line-index _ _ c.loop-line.invariant c.loop-line-test.false (omega arith) _ (λ none. omega arith) (back ∙ c.rounded-mean.ensures.value);
-      within = subst Bounded (sym back) c.rounded-mean.ensures.within;
+      value = some_day c.args.lines.now c.loop-line.line-index _ _ c.loop-line.invariant c.loop-line-test.false (omega arith) _ (λ none. omega arith) (back ∙ c.rounded_mean.ensures.value);
+      within = subst Bounded (sym back) c.rounded_mean.ensures.within;
     }

@@ -14,5 +14,5 @@ pub returns-in-Err : goal.returns-in-Err
 returns-in-Err c = ?
 
 -- src/run.rt:71:5
-pub returns-in-default : goal.returns-in-default
-returns-in-default c = ?
+pub returns-in_default : goal.returns-in_default
+returns-in_default c = ?

@@ -4,7 +4,7 @@ use Rattle.book.proofs.Keeping.{keeps_change}
 use Rattle.book.proofs.Soundness.{sure_sound}
 use Rattle.book.proofs.book.Book.change_object.Goals as goal
 
-pub invariant-of-self : goal.invariant-of-self
-invariant-of-self c =
+pub invariant_of-self : goal.invariant_of-self
+invariant_of-self c =
     let t = c.args.self.now in
-    (sure_sound (change_entry c.args.object c.args.row c.args.power c.args.area) (store t.tables) _ c.change-object.result c.change-object.ensures t.sound (keeps_change _ c.args.object c.args.row c.args.power c.args.area), tt)
+    record { sound = sure_sound (change_entry c.args.object c.args.row c.args.power c.args.area) (store t.tables) _ c.change_object.result c.change_object.ensures t.sound (keeps_change _ c.args.object c.args.row c.args.power c.args.area) }

@@ -4,7 +4,7 @@ use Rattle.book.proofs.Keeping.{keeps_object}
 use Rattle.book.proofs.Soundness.{outcome_sound}
 use Rattle.book.proofs.book.Book.enter_object.Goals as goal
 
-pub invariant-of-self : goal.invariant-of-self
-invariant-of-self c =
+pub invariant_of-self : goal.invariant_of-self
+invariant_of-self c =
     let t = c.args.self.now in
-    (outcome_sound (object_entry (record { node = c.args.node; recipient = c.args.recipient; row = c.args.row; power = c.args.power; area = c.args.area })) (store t.tables) _ c.enter-object.result c.enter-object.ensures t.sound (keeps_object _ (record { node = c.args.node; recipient = c.args.recipient; row = c.args.row; power = c.args.power; area = c.args.area })), tt)
+    record { sound = outcome_sound (object_entry (record { node = c.args.node; recipient = c.args.recipient; row = c.args.row; power = c.args.power; area = c.args.area })) (store t.tables) _ c.enter_object.result c.enter_object.ensures t.sound (keeps_object _ (record { node = c.args.node; recipient = c.args.recipient; row = c.args.row; power = c.args.power; area = c.args.area })) }

@@ -4,7 +4,7 @@ use Rattle.book.proofs.Keeping.{keeps_recipient}
 use Rattle.book.proofs.Soundness.{outcome_sound}
 use Rattle.book.proofs.book.Book.enter_recipient.Goals as goal
 
-pub invariant-of-self : goal.invariant-of-self
-invariant-of-self c =
+pub invariant_of-self : goal.invariant_of-self
+invariant_of-self c =
     let t = c.args.self.now in
-    (outcome_sound (recipient_entry) (store t.tables) _ c.enter-recipient.result c.enter-recipient.ensures t.sound (keeps_recipient _), tt)
+    record { sound = outcome_sound (recipient_entry) (store t.tables) _ c.enter_recipient.result c.enter_recipient.ensures t.sound (keeps_recipient _) }

@@ -5,7 +5,7 @@ use Rattle.book.proofs.Keeping.{keeps_event}
 use Rattle.book.proofs.Soundness.{sure_sound}
 use Rattle.book.proofs.book.Book.report_fault.Goals as goal
 
-pub invariant-of-self : goal.invariant-of-self
-invariant-of-self c =
+pub invariant_of-self : goal.invariant_of-self
+invariant_of-self c =
     let t = c.args.self.now in
-    (sure_sound (meter_entry Fault c.args.node c.args.register) (store t.tables) _ c.note-event.result c.note-event.ensures t.sound (keeps_event _ Fault c.args.node c.args.register), tt)
+    record { sound = sure_sound (meter_entry Fault c.args.node c.args.register) (store t.tables) _ c.note_event.result c.note_event.ensures t.sound (keeps_event _ Fault c.args.node c.args.register) }

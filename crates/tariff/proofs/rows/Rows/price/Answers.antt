@@ -1,4 +1,4 @@
-use Rattle.std.proofs.Common.{not, sym, ap, ◌∙◌}
+use Rattle.std.proofs.Common.{not, ap}
 use Rattle.std.proofs.lemmas.Bool.{le-ltb, lt-ltb, cond-true}
 use Rattle.sharing.specs.declared.refusal.Refusal.TheVariants.{Unknown}
 use Rattle.sharing.proofs.Picked.{accepted, refused}
@@ -18,6 +18,6 @@ pub returns : goal.returns
 returns c =
     let rows = c.args.self.now.rows.now in
     record {
-      value = accepted (price_why rows c.args.row) _ _ (ap not (lt-ltb _ _ c.if-row-self.false), tt) c.price-of.ensures;
+      value = accepted (price_why rows c.args.row) _ _ (ap not (lt-ltb _ _ c.if-row-self.false), tt) c.price_of.ensures;
       law = price-law rows c.args.self.now.good;
     }
