@@ -1,6 +1,6 @@
 -- What a run from new keeps: the book and the papers agree with the history.
 use Rattle.std.proofs.Common.{◌≡◌, ℕ, ◌+◌, ◌-◌, ◌*◌, ◌<◌, ◌≤◌, Bool, true, false, cond, eqb, List, [], ◌∷◌, ◌++◌, map, length, get_or, take, set, ℤ, pos, ◌+ℤ◌, sym, refl, ap, ◌∙◌, subst, inl, inr, arith}
-use Rattle.std.specs.List.{range_with_len, AllByRecursion as All}
+use Rattle.std.specs.List.{range_with_len, AllByRecursion}
 use Rattle.std.proofs.ByRecursion.{All-get_or, All-map, All-weaker}
 use Rattle.std.proofs.lemmas.List.{get_or_past, length_push, length-set, take-append-le, take_all}
 use Rattle.std.proofs.lemmas.Bool.{cond_both, cond-true, cond-false, eq-eqb, false≢true, ne_eqb}
@@ -54,8 +54,8 @@ pub record Agrees (h : List Event) (w : World) (ps : List Paper) : Type 0 where
   pub named-are : NodesFit w.nodes (nodes h)
   pub metered : (k : ℕ) → MeterFits h k (node_in w.nodes k)
   pub papers-are : PapersFit w.nodes ps (papers h)
-  pub lines_are : All (LineBefore w.nodes) w.lines
-  pub months-are : All (MonthFits w.rows w.lines w.nodes) (months h)
+  pub lines_are : AllByRecursion (LineBefore w.nodes) w.lines
+  pub months-are : AllByRecursion (MonthFits w.rows w.lines w.nodes) (months h)
   pub balances : (q : ℕ) → balance_in w.recipients q ≡ charges_standing q w.lines (months h)
 
 pub none_yet : (w : World) → w ≡ empty w.places → (ps : List Paper) → ps ≡ [] → Agrees [] w ps
@@ -75,7 +75,7 @@ pub lawful : (h : List Event) (w : World) (ps : List Paper) → rows_good w.rows
 lawful h w ps good a = record {
   heat = All-weaker _ _ (λ x f. heat-agrees w.rows w.lines x f.fit f.stands) (months h) a.months-are;
   water = All-weaker _ _ (λ x f. water-agrees w.rows w.lines x f.fit f.stands) (months h) a.months-are;
-  charges = λ c. subst (λ rs. All (ChargeAgrees rs w.lines c) (months h)) a.rows_are (All-weaker _ _ (λ x f. charge_agrees w.rows w.lines x f.fit f.stands good c) (months h) a.months-are);
+  charges = λ c. subst (λ rs. AllByRecursion (ChargeAgrees rs w.lines c) (months h)) a.rows_are (All-weaker _ _ (λ x f. charge_agrees w.rows w.lines x f.fit f.stands good c) (months h) a.months-are);
   balances = a.balances;
   meter = λ n. (a.metered n).0;
 }
@@ -88,11 +88,11 @@ price-stays rs r c i low =
     sym (worked_out-below (price_over c) (rs ++ r ∷ []) (length rs) i (omega (arith, length_push rs r)) low)
     ∙ ap (λ xs. price c xs i) (take-append-le (length rs) rs (r ∷ []) (omega arith) ∙ take_all (length rs) rs (omega arith))
 
-charged-stays : (rs : List Row) (r : Row) (c : Charge) (us : List Use) → All (λ u. u.row < length rs) us → charged c (rs ++ r ∷ []) us ≡ charged c rs us
+charged-stays : (rs : List Row) (r : Row) (c : Charge) (us : List Use) → AllByRecursion (λ u. u.row < length rs) us → charged c (rs ++ r ∷ []) us ≡ charged c rs us
 charged-stays rs r c us known =
     ap (cut (λ n. nearest n (divisor c))) (map_same _ _ us (All-weaker _ _ (λ u low. ap (λ p. quantity c u * p) (price-stays rs r c u.row low)) us known))
 
-used_known : (rs : List Row) (x : Month) → Fit rs x → All (λ u. u.row < length rs) (month-used x)
+used_known : (rs : List Row) (x : Month) → Fit rs x → AllByRecursion (λ u. u.row < length rs) (month-used x)
 used_known rs x fit =
     All-map _ _ (range_with_len 0 (length x.shares))
     (All-weaker _ _ (λ i within. (All-get_or (λ s. (s.row < length rs) × (s.kw ≤ most_power)) x.shares i no_share within fit.known).0)
@@ -131,7 +131,7 @@ pub later_set : (ns : List Node) (k : ℕ) (new : Node) → k < length ns → (n
 later_set ns k new within more = set_cases (new_node 0 0) ns new (λ n x. (node_in ns n).month ≤ x.month) k within more (λ n other. omega arith)
 
 module _ (ns ns' : List Node) (later : Later ns ns') where
-  pub lines-later : (ls : List Line) → All (LineBefore ns) ls → All (LineBefore ns') ls
+  pub lines-later : (ls : List Line) → AllByRecursion (LineBefore ns) ls → AllByRecursion (LineBefore ns') ls
   lines-later ls before = All-weaker _ _ (λ l low is. let more = later l.node in let was = low is in omega arith) ls before
 
   pub month-later : (rs : List Row) (ls : List Line) (x : Month) → MonthFits rs ls ns x → MonthFits rs ls ns' x
@@ -219,7 +219,7 @@ module _ (h : List Event) (w : World) (ps : List Paper) (a : Agrees h w ps) wher
           papers-are = subst (PapersFit (set w.nodes k new) ps) (sym same-papers)
               (papers-move w.nodes _ (omega (arith, length-set w.nodes k new)) (moves_set w.nodes k new within moved) ps (papers h) a.papers-are);
           lines_are = lines-later w.nodes _ later w.lines a.lines_are;
-          months-are = subst (All (MonthFits w.rows w.lines (set w.nodes k new))) (sym same-months)
+          months-are = subst (AllByRecursion (MonthFits w.rows w.lines (set w.nodes k new))) (sym same-months)
               (All-weaker _ _ (month-later w.nodes _ later w.rows w.lines) (months h) a.months-are);
           balances = λ q. a.balances q ∙ ap (charges_standing q w.lines) (sym same-months);
         }

@@ -1,6 +1,6 @@
 -- Balances after lines.
 use Rattle.std.proofs.Common.{◌≡◌, ℕ, ◌<◌, cond, eqb, List, [], ◌∷◌, length, get_or, set, ℤ, pos, ◌+ℤ◌, sym, refl, ap, ◌∙◌, subst, ⊎_elim, arith}
-use Rattle.std.specs.List.{AllByRecursion as All}
+use Rattle.std.specs.List.{AllByRecursion}
 use Rattle.std.proofs.ByRecursion.{All-weaker}
 use Rattle.std.proofs.lemmas.List.{get_or-set_same, get_or-set_other, length-set}
 use Rattle.std.proofs.lemmas.Int.{ints}
@@ -31,7 +31,7 @@ one_line q l rs within =
     (cases_eq q l.recipient)
 
 -- every balance rises by what the lines say
-pub balance_after : (q : ℕ) (ls : List Line) (rs : List Recipient) → All (λ l. l.recipient < length rs) ls → balance_in (after_lines rs ls) q ≡ balance_in rs q +ℤ owed q ls
+pub balance_after : (q : ℕ) (ls : List Line) (rs : List Recipient) → AllByRecursion (λ l. l.recipient < length rs) ls → balance_in (after_lines rs ls) q ≡ balance_in rs q +ℤ owed q ls
 balance_after q [] rs known = omega (arith, ints)
 balance_after q (l ∷ ls) rs known =
     let same = length-set rs l.recipient (record { balance = balance_in rs l.recipient +ℤ together l.amounts }) in

@@ -1,6 +1,6 @@
 -- Lists by their places, and signed sums.
 use Rattle.std.proofs.Common.{◌≡◌, ℕ, zero, suc, ◌+◌, ◌<◌, ◌≤◌, Bool, true, false, cond, List, [], ◌∷◌, ◌++◌, map, length, get_or, ℤ, pos, ◌+ℤ◌, nat_abs, sum, filter, sym, refl, ap, ◌∙◌, arith}
-use Rattle.std.specs.List.{range_with_len, AllByRecursion as All}
+use Rattle.std.specs.List.{range_with_len, AllByRecursion}
 use Rattle.std.proofs.lemmas.List.FromFn.{fill_by_all}
 use Rattle.std.proofs.ByRecursion.{all_kept_by, All-weaker}
 use Rattle.std.proofs.lemmas.List.{get_or-map, length-map}
@@ -10,7 +10,7 @@ use Rattle.sharing.proofs.Parts.{sum-cons}
 use Rattle.book.specs.Journal.{summed}
 
 -- two functions that agree on a list
-pub map_same : {X Y : Type 0} (f g : X → Y) (xs : List X) → All (λ x. f x ≡ g x) xs → map f xs ≡ map g xs
+pub map_same : {X Y : Type 0} (f g : X → Y) (xs : List X) → AllByRecursion (λ x. f x ≡ g x) xs → map f xs ≡ map g xs
 map_same f g [] same = refl
 map_same f g (x ∷ xs) same = ap (λ y. y ∷ map f xs) same.0 ∙ ap (λ ys. g x ∷ ys) (map_same f g xs same.1)
 
@@ -24,7 +24,7 @@ by_place g xs d =
     sym (fill_by_all (λ i. g (get_or xs i d)) (map g xs) (length xs) (g d) (length-map xs g) (λ k within. get_or-map g xs k d (g d) within))
 
 -- signed sums
-pub summed_same : {X : Type 0} (f g : X → ℤ) (xs : List X) → All (λ x. f x ≡ g x) xs → summed f xs ≡ summed g xs
+pub summed_same : {X : Type 0} (f g : X → ℤ) (xs : List X) → AllByRecursion (λ x. f x ≡ g x) xs → summed f xs ≡ summed g xs
 summed_same f g [] same = refl
 summed_same f g (x ∷ xs) same = ap (λ z. z +ℤ summed f xs) same.0 ∙ ap (λ z. g x +ℤ z) (summed_same f g xs same.1)
 
@@ -32,7 +32,7 @@ pub summed-append : {X : Type 0} (f : X → ℤ) (xs ys : List X) → summed f (
 summed-append f [] ys = omega (arith, ints)
 summed-append f (x ∷ xs) ys = let rest = summed-append f xs ys in omega (arith, ints)
 
-pub summed-none : {X : Type 0} (f : X → ℤ) (xs : List X) → All (λ x. f x ≡ pos 0) xs → summed f xs ≡ pos 0
+pub summed-none : {X : Type 0} (f : X → ℤ) (xs : List X) → AllByRecursion (λ x. f x ≡ pos 0) xs → summed f xs ≡ pos 0
 summed-none f [] none = refl
 summed-none f (x ∷ xs) none = let here = none.0 in let rest = summed-none f xs none.1 in omega (arith, ints)
 
@@ -51,9 +51,9 @@ abs_pos (x ∷ xs) = ap (λ ys. x ∷ ys) (abs_pos xs)
 -- numbers that all differ
 abbrev pub Apart : List ℕ → Type 0
 Apart [] = Unit {0}
-Apart (x ∷ xs) = All (λ y. y ≡ x → ⊥) xs × Apart xs
+Apart (x ∷ xs) = AllByRecursion (λ y. y ≡ x → ⊥) xs × Apart xs
 
-counting_above : (a b n : ℕ) → a ≤ b → All (λ y. a ≤ y) (range_with_len b n)
+counting_above : (a b n : ℕ) → a ≤ b → AllByRecursion (λ y. a ≤ y) (range_with_len b n)
 counting_above a b zero low = tt
 counting_above a b (suc n) low = (low, counting_above a (b + 1) n (omega arith))
 

@@ -1,6 +1,6 @@
 -- The lines that a posting writes, and what they make stand.
 use Rattle.std.proofs.Common.{◌≡◌, ℕ, zero, suc, ◌+◌, ◌*◌, ◌<◌, ◌≤◌, Bool, false, eqb, List, [], ◌∷◌, ◌++◌, map, length, get_or, ℤ, pos, ◌+ℤ◌, sum, sym, refl, ap, ◌∙◌, subst, arith}
-use Rattle.std.specs.List.{range_with_len, AllByRecursion as All}
+use Rattle.std.specs.List.{range_with_len, AllByRecursion}
 use Rattle.std.proofs.lemmas.List.FromFn.{length-map-range_with_len}
 use Rattle.std.proofs.ByRecursion.{All-map, All-weaker}
 use Rattle.std.proofs.lemmas.List.{get_or-map, length-map}
@@ -37,11 +37,11 @@ map-self (x ∷ xs) = ap (λ ys. x ∷ ys) (map-self xs)
 by_places : {X Y : Type 0} (g : X → Y) (xs : List X) (d : X) (n : ℕ) → n ≡ length xs → map (λ i. g (get_or xs i d)) (range_with_len 0 n) ≡ map g xs
 by_places g xs d n long = ap (λ k. map (λ i. g (get_or xs i d)) (range_with_len 0 k)) long ∙ by_place g xs d
 
-pub counting_low : (a n top : ℕ) → a + n ≤ top → All (λ i. i < top) (range_with_len a n)
+pub counting_low : (a n top : ℕ) → a + n ≤ top → AllByRecursion (λ i. i < top) (range_with_len a n)
 counting_low a zero top low = tt
 counting_low a (suc n) top low = (omega arith, counting_low (a + 1) n top (omega arith))
 
-all_for_each : {X : Type 0} (P : X → Type 0) → ((x : X) → P x) → (xs : List X) → All P xs
+all_for_each : {X : Type 0} (P : X → Type 0) → ((x : X) → P x) → (xs : List X) → AllByRecursion P xs
 all_for_each P each [] = tt
 all_for_each P each (x ∷ xs) = (each x, all_for_each P each xs)
 
@@ -111,19 +111,19 @@ module _ (key : Key) (rule : Rule) (f : Fixing) (w : World) where
   pub line_charges : (c : Charge) → map (charge_of c) lines ≡ map pos (charged c w.rows (uses_of shares heats waters))
   line_charges c = line_charges-of c ∙ ap (λ us. map pos (charged c w.rows us)) uses_are
 
-  pub are_month-lines : All (MonthLine f.node f.month) lines
+  pub are_month-lines : AllByRecursion (MonthLine f.node f.month) lines
   are_month-lines = All-map _ _ (range_with_len 0 (length numbers)) (all_for_each _ (λ i. record { kind = refl; node = refl; month = refl }) (range_with_len 0 (length numbers)))
 
   apart : Apart (map (λ l. l.object) lines)
   apart = subst Apart (sym line_objects) (kept_apart (λ i. eqb (get_or w.objects i no_object).node f.node) 0 (length w.objects))
 
   -- each line carries its object's recipient, and nothing under other
-  pub line_recipients : All (λ l. (l.recipient ≡ (get_or w.objects l.object no_object).recipient) × (l.amounts.other ≡ pos 0)) lines
+  pub line_recipients : AllByRecursion (λ l. (l.recipient ≡ (get_or w.objects l.object no_object).recipient) × (l.amounts.other ≡ pos 0)) lines
   line_recipients = All-map _ _ (range_with_len 0 (length numbers)) (all_for_each _ (λ i. (refl, refl)) (range_with_len 0 (length numbers)))
 
-  module _ (before : List Line) (new : (o : ℕ) → All (λ l. of_it f.node f.month o l ≡ false) before) where
+  module _ (before : List Line) (new : (o : ℕ) → AllByRecursion (λ l. of_it f.node f.month o l ≡ false) before) where
     -- to each object just its line stands, where the month is new to the journal
-    pub line_stands : All (λ l. (g : Line → ℤ) → standing g f.node f.month l.object (before ++ lines) ≡ g l) lines
+    pub line_stands : AllByRecursion (λ l. (g : Line → ℤ) → standing g f.node f.month l.object (before ++ lines) ≡ g l) lines
     line_stands =
         All-weaker _ _
         (λ l told g.

@@ -1,6 +1,6 @@
 -- Posted months whose parts stand in the journal.
 use Rattle.std.proofs.Common.{◌≡◌, ℕ, ◌*◌, ◌<◌, ◌≤◌, Bool, true, ltb, leb, List, [], ◌∷◌, map, length, get_or, pos, nat_abs, sum, sym, refl, ap, ◌∙◌, subst, arith, lit≤}
-use Rattle.std.specs.List.{range_with_len, list_all, AllByRecursion as All}
+use Rattle.std.specs.List.{range_with_len, list_all, AllByRecursion}
 use Rattle.std.proofs.lemmas.List.FromFn.{length-map-range_with_len}
 use Rattle.std.proofs.ByRecursion.{All-get_or, All-map, All-weaker}
 use Rattle.std.proofs.lemmas.List.{get_or-map, length-map}
@@ -48,7 +48,7 @@ pub record Fit (rs : List Row) (x : Month) : Type 0 where
   pub heat-may : Shareable x.slip.heat (weights x)
   pub water-may : Shareable x.slip.water (weights x)
   pub rounds : Rounds x.rule
-  pub known : All (λ s. (s.row < length rs) × (s.kw ≤ most_power)) x.shares
+  pub known : AllByRecursion (λ s. (s.row < length rs) × (s.kw ≤ most_power)) x.shares
 
 -- and what stands for it in the journal
 pub record MonthStands (rs : List Row) (lines : List Line) (x : Month) : Type 0 where

@@ -1,7 +1,7 @@
 -- A posting keeps the agreement.
 use Rattle.std.proofs.Common.{◌≡◌, ℕ, ◌+◌, ◌-◌, ◌<◌, ◌≤◌, Bool, true, false, cond, not, ◌&&◌, eqb, ltb, leb, ◌⊎◌, List, [], ◌∷◌, ◌++◌, map, length, get_or, set, ℤ, pos, ◌+ℤ◌, is_some, IfSome, Some, None, sum_by, sum, count_by, filter, Option, unwrap_or, sym, refl, ap, ◌∙◌, subst, inl, inr, ⊎_elim, arith}
 use mathlib.Core.Bool.{beq}
-use Rattle.std.specs.List.{range_with_len, list_all, AllByRecursion as All}
+use Rattle.std.specs.List.{range_with_len, list_all, AllByRecursion}
 use Rattle.std.specs.Option.{option_map}
 use Rattle.std.proofs.ByRecursion.{All-append, All-get_or, all_kept_by, All-map, All-push, All-weaker, kept_by_passes}
 use Rattle.std.proofs.lemmas.List.{get_or_past, get_or-set_same, length-map, length_push, length-set}
@@ -48,13 +48,13 @@ use Rattle.agreement.proofs.Lists.{by_place, map_same, map-twice, summed-append,
 use Rattle.agreement.proofs.MonthLines.{all_stand-new, are_month-lines, counting_low, heats, length-weights, line_charges, line_heats, line_objects, line_recipients, line_stands, line_waters, map-self, shares, shares-weigh, waters}
 
 -- the numbers of a node's objects are in use, and theirs
-behind-are : (node : ℕ) (objects : List Object) → All (λ i. (i < length objects) × ((get_or objects i no_object).node ≡ node)) (behind node objects)
+behind-are : (node : ℕ) (objects : List Object) → AllByRecursion (λ i. (i < length objects) × ((get_or objects i no_object).node ≡ node)) (behind node objects)
 behind-are node objects =
     both (behind node objects)
     (all_kept_by _ _ (range_with_len 0 (length objects)) (counting_low 0 (length objects) (length objects) (omega arith)))
     (All-weaker _ _ (λ i e. eqb-true _ _ e) (behind node objects) (kept_by_passes _ (range_with_len 0 (length objects))))
   where
-    both : (xs : List ℕ) → All (λ i. i < length objects) xs → All (λ i. (get_or objects i no_object).node ≡ node) xs → All (λ i. (i < length objects) × ((get_or objects i no_object).node ≡ node)) xs
+    both : (xs : List ℕ) → AllByRecursion (λ i. i < length objects) xs → AllByRecursion (λ i. (get_or objects i no_object).node ≡ node) xs → AllByRecursion (λ i. (i < length objects) × ((get_or objects i no_object).node ≡ node)) xs
     both [] low are = tt
     both (x ∷ xs) low are = ((low.0, are.0), both xs low.1 are.1)
 
@@ -121,7 +121,7 @@ module _ (key : Key) (light : (o p a : ℕ) → p ≤ most_power → a ≤ most_
   abbrev ns : List Node
   ns = set w.nodes f.node (posted_node f n)
 
-  none : All (λ p. p.0 ≡ false) (post_entry key rule f w).why
+  none : AllByRecursion (λ p. p.0 ≡ false) (post_entry key rule f w).why
   none = none_hold (post_entry key rule f w).why granted
 
   within : f.node < length w.nodes
@@ -149,7 +149,7 @@ module _ (key : Key) (light : (o p a : ℕ) → p ≤ most_power → a ≤ most_
   weights-are : weights x ≡ node_weights key f.node w.objects
   weights-are = ap (map (λ s. s.weight)) shares-are ∙ shares-weigh key w.objects f.node
 
-  in_behind : All (λ i. i < length w.objects) (behind f.node w.objects)
+  in_behind : AllByRecursion (λ i. i < length w.objects) (behind f.node w.objects)
   in_behind = All-weaker _ _ (λ i is. is.0) (behind f.node w.objects) (behind-are f.node w.objects)
 
   weights-may : (total : ℕ) → total ≤ most_quantity → Shareable total (weights x)
@@ -168,12 +168,12 @@ module _ (key : Key) (light : (o p a : ℕ) → p ≤ most_power → a ≤ most_
     heat-may = weights-may f.heat fits.heat-low;
     water-may = weights-may f.water fits.water-low;
     rounds = rounds;
-    known = subst (All (λ s. (s.row < length w.rows) × (s.kw ≤ most_power))) (sym shares-are)
+    known = subst (AllByRecursion (λ s. (s.row < length w.rows) × (s.kw ≤ most_power))) (sym shares-are)
         (All-map _ _ (behind f.node w.objects) (All-weaker _ _ (λ i low. let o = object-parts w sound i low in (o.0, o.1)) (behind f.node w.objects) in_behind));
   }
 
   -- no line of the month stands yet
-  new_month : (o : ℕ) → All (λ l. of_it f.node f.month o l ≡ false) w.lines
+  new_month : (o : ℕ) → AllByRecursion (λ l. of_it f.node f.month o l ≡ false) w.lines
   new_month o = All-weaker _ _ (λ l before. absent l before o) w.lines a.lines_are
     where
       absent : (l : Line) → LineBefore w.nodes l → (o : ℕ) → of_it f.node f.month o l ≡ false
@@ -219,7 +219,7 @@ module _ (key : Key) (light : (o p a : ℕ) → p ≤ most_power → a ≤ most_
   all_stays : (y : Month) → y.month < (node_in w.nodes y.node).month → (g : Line → ℤ) → all_stand g (w.lines ++ lines) y ≡ all_stand g w.lines y
   all_stays y before g = map_same _ _ y.shares (all_of y.shares)
     where
-      all_of : (ss : List Share) → All (λ s. stands g (w.lines ++ lines) y s ≡ stands g w.lines y s) ss
+      all_of : (ss : List Share) → AllByRecursion (λ s. stands g (w.lines ++ lines) y s ≡ stands g w.lines y s) ss
       all_of [] = tt
       all_of (s ∷ ss) = (stays y before g s.object, all_of ss)
 
@@ -237,7 +237,7 @@ module _ (key : Key) (light : (o p a : ℕ) → p ≤ most_power → a ≤ most_
   advanced-month : (node_in ns f.node).month ≡ f.month + 1
   advanced-month = ap (λ (k : Node). k.month) (get_or-set_same w.nodes f.node (posted_node f n) (new_node 0 0) within) ∙ ap (λ m. m + 1) (sym dates.0)
 
-  lines-before : All (LineBefore ns) (w.lines ++ lines)
+  lines-before : AllByRecursion (LineBefore ns) (w.lines ++ lines)
   lines-before =
       All-append _ w.lines lines (lines-later w.nodes ns later w.lines a.lines_are)
       (All-weaker _ _ (λ l is _. let node = ap (λ k. (node_in ns k).month) is.node in omega (arith, is.month, node, advanced-month)) lines (are_month-lines key rule f w))
@@ -263,9 +263,9 @@ module _ (key : Key) (light : (o p a : ℕ) → p ≤ most_power → a ≤ most_
       ∙ summed-map (λ i. each (share key (objects h) i)) (λ (l : Line). l.object) lines
       ∙ summed_same _ _ lines (both lines (line_recipients key rule f w) (line_stands key rule f w w.lines new_month))
     where
-      both : (ls : List Line) → All (λ l. (l.recipient ≡ (get_or w.objects l.object no_object).recipient) × (l.amounts.other ≡ pos 0)) ls
-          → All (λ l. (g : Line → ℤ) → standing g f.node f.month l.object (w.lines ++ lines) ≡ g l) ls
-          → All (λ l. cond (eqb (get_or (objects h) l.object no_object).recipient q) (charges_stand (w.lines ++ lines) x (share key (objects h) l.object)) (pos 0) ≡ cond (eqb l.recipient q) (together l.amounts) (pos 0)) ls
+      both : (ls : List Line) → AllByRecursion (λ l. (l.recipient ≡ (get_or w.objects l.object no_object).recipient) × (l.amounts.other ≡ pos 0)) ls
+          → AllByRecursion (λ l. (g : Line → ℤ) → standing g f.node f.month l.object (w.lines ++ lines) ≡ g l) ls
+          → AllByRecursion (λ l. cond (eqb (get_or (objects h) l.object no_object).recipient q) (charges_stand (w.lines ++ lines) x (share key (objects h) l.object)) (pos 0) ≡ cond (eqb l.recipient q) (together l.amounts) (pos 0)) ls
       both [] are told = tt
       both (l ∷ ls) are told = (
         ap (λ os. cond (eqb (get_or os l.object no_object).recipient q) (charges_stand (w.lines ++ lines) x (share key (objects h) l.object)) (pos 0)) (sym a.objects-are)
@@ -290,11 +290,11 @@ module _ (key : Key) (light : (o p a : ℕ) → p ≤ most_power → a ≤ most_
           → summed_where (λ s. eqb s.recipient q) (charges_stand (w.lines ++ lines) y) y.shares ≡ summed_where (λ s. eqb s.recipient q) (charges_stand w.lines y) y.shares
       same y before = summed_same _ _ y.shares (all_of y.shares)
         where
-          all_of : (ss : List Share) → All (λ s. cond (eqb s.recipient q) (charges_stand (w.lines ++ lines) y s) (pos 0) ≡ cond (eqb s.recipient q) (charges_stand w.lines y s) (pos 0)) ss
+          all_of : (ss : List Share) → AllByRecursion (λ s. cond (eqb s.recipient q) (charges_stand (w.lines ++ lines) y s) (pos 0) ≡ cond (eqb s.recipient q) (charges_stand w.lines y s) (pos 0)) ss
           all_of [] = tt
           all_of (s ∷ ss) = (ap (λ z. cond (eqb s.recipient q) z (pos 0)) (one y before s), all_of ss)
 
-  recipients-known : All (λ l. l.recipient < length w.recipients) lines
+  recipients-known : AllByRecursion (λ l. l.recipient < length w.recipients) lines
   recipients-known =
       let good = and_parts (list_all (line_good (in_use w)) lines) _ (not-false _ none.1.1.1.1.1.0) in
       all_from_pass (line_good (in_use w)) _

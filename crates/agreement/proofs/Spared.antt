@@ -1,6 +1,6 @@
 -- Where the tables have memory for every place, no call wants any.
 use Rattle.std.proofs.Common.{◌≡◌, ℕ, ◌+◌, ◌<◌, ◌≤◌, min, Bool, true, false, List, [], ◌∷◌, length, drop, Some, None, Ok, Err, vec_items, Option, Result, sym, refl, ap, ◌∙◌, subst, ⊎_elim, arith, lit<}
-use Rattle.std.specs.List.{AllByRecursion as All}
+use Rattle.std.specs.List.{AllByRecursion}
 use Rattle.std.proofs.lemmas.List.FromFn.{length-map-range_with_len}
 use Rattle.std.proofs.lemmas.List.{length-append, length_push, length-set}
 use Rattle.std.proofs.lemmas.Bool.{and_from, both_ways, le-leb, ltb-false}
@@ -52,7 +52,7 @@ use Rattle.agreement.specs.declared.call.Call.{Call as ListCall}
 
 -- no condition of a call speaks of memory
 abbrev pub Unspoken : List (Bool × Refusal) → Type 0
-Unspoken why = All (λ p. number p.1 < number Memory) why
+Unspoken why = AllByRecursion (λ p. number p.1 < number Memory) why
 
 unpicked : (why : List (Bool × Refusal)) (f : Refusal) → Unspoken why → refusal why ≡ Some f → number f ≡ number Memory → ⊥
 unpicked why f unspoken e wants = let low = picked_from (λ f. number f < number Memory) why f unspoken e in omega arith

@@ -1,6 +1,6 @@
 -- What stands in a journal to which the lines of one month are added.
 use Rattle.std.proofs.Common.{◌≡◌, ℕ, ◌<◌, Bool, true, false, cond, ◌&&◌, eqb, List, [], ◌∷◌, ◌++◌, map, ℤ, pos, ◌+ℤ◌, sym, refl, ap, ◌∙◌, subst, ⊎_elim, arith}
-use Rattle.std.specs.List.{AllByRecursion as All}
+use Rattle.std.specs.List.{AllByRecursion}
 use Rattle.std.proofs.ByRecursion.{All-weaker}
 use Rattle.std.proofs.lemmas.Int.{ints}
 use Rattle.std.proofs.lemmas.Bool.{and_from, and_left, and_right, cases_eq, cond-true, cond-false, eq-eqb, ne_eqb}
@@ -18,7 +18,7 @@ pub standing-append : (f : Line → ℤ) (n m o : ℕ) (xs ys : List Line) → s
 standing-append f n m o xs ys = summed-append (λ l. cond (of_it n m o l) (f l) (pos 0)) xs ys
 
 -- nothing stands where no line is of it
-pub standing-none : (f : Line → ℤ) (n m o : ℕ) (xs : List Line) → All (λ l. of_it n m o l ≡ false) xs → standing f n m o xs ≡ pos 0
+pub standing-none : (f : Line → ℤ) (n m o : ℕ) (xs : List Line) → AllByRecursion (λ l. of_it n m o l ≡ false) xs → standing f n m o xs ≡ pos 0
 standing-none f n m o xs none = summed-none _ xs (All-weaker _ _ (λ l e. cond-false (of_it n m o l) (f l) (pos 0) e) xs none)
 
 -- a month line of the node's month
@@ -45,16 +45,16 @@ module _ (n m : ℕ) where
   of_other_object o l other =
       and_right (of_a_month l.kind) _ (and_right (eqb l.node n) _ (and_right (eqb l.month m) _ (ne_eqb l.object o other)))
 
-  all_others : (o : ℕ) (ls : List Line) → All (λ y. y ≡ o → ⊥) (map (λ l. l.object) ls) → All (λ l. of_it n m o l ≡ false) ls
+  all_others : (o : ℕ) (ls : List Line) → AllByRecursion (λ y. y ≡ o → ⊥) (map (λ l. l.object) ls) → AllByRecursion (λ l. of_it n m o l ≡ false) ls
   all_others o [] others = tt
   all_others o (l ∷ ls) others = (of_other_object o l others.0, all_others o ls others.1)
 
-  both : (o : ℕ) (l : Line) (P : Line → Type 0) (ls : List Line) → All (λ y. y ≡ o → ⊥) (map (λ l. l.object) ls) → All P ls → All (λ x. (x.object ≡ o → ⊥) × P x) ls
+  both : (o : ℕ) (l : Line) (P : Line → Type 0) (ls : List Line) → AllByRecursion (λ y. y ≡ o → ⊥) (map (λ l. l.object) ls) → AllByRecursion P ls → AllByRecursion (λ x. (x.object ≡ o → ⊥) × P x) ls
   both o l P [] others all = tt
   both o l P (x ∷ ls) others all = ((others.0, all.0), both o l P ls others.1 all.1)
 
   -- to each line's object just that line stands
-  pub own : (ls : List Line) → All (MonthLine n m) ls → Apart (map (λ l. l.object) ls) → All (λ l. (f : Line → ℤ) → standing f n m l.object ls ≡ f l) ls
+  pub own : (ls : List Line) → AllByRecursion (MonthLine n m) ls → Apart (map (λ l. l.object) ls) → AllByRecursion (λ l. (f : Line → ℤ) → standing f n m l.object ls ≡ f l) ls
   own [] are apart = tt
   own (l ∷ ls) are apart = (
     λ f.

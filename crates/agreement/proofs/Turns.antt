@@ -1,6 +1,6 @@
 -- A run, turn by turn.
 use Rattle.std.proofs.Common.{◌≡◌, ℕ, ◌+◌, ◌-◌, ◌<◌, ◌≤◌, true, List, [], ◌∷◌, ◌++◌, length, get_or, take, drop, set, sym, refl, ap, ◌∙◌, subst, arith}
-use Rattle.std.specs.List.{AllByRecursion as All}
+use Rattle.std.specs.List.{AllByRecursion}
 use Rattle.std.proofs.ByRecursion.{All-push}
 use Rattle.std.proofs.lemmas.List.{drop-drop, drop-set-lt, length-set, length-take-le, take_more, take_more_set}
 use Rattle.sharing.specs.Keys.{Key, Light}
@@ -43,7 +43,7 @@ module _ {K R : Type 0} (weight : K → Key) (meaning : R → Rule) (s₀ : Stat
     pub ran : Ran weight meaning s₀ (take i calls) (take i answers) s
     pub rest : drop i answers ≡ drop i before
     pub agrees : s₀.store.world ≡ empty s₀.store.world.places → s₀.papers ≡ [] → Agrees (history weight meaning (take i calls) (take i answers)) s.store.world s.papers
-    pub memory : Ample s₀.store → length s₀.papers + made calls before ≤ s₀.room → Spare (made calls before - i) s × All (λ a. number_told a ≡ number Memory → ⊥) (take i answers)
+    pub memory : Ample s₀.store → length s₀.papers + made calls before ≤ s₀.room → Spare (made calls before - i) s × AllByRecursion (λ a. number_told a ≡ number Memory → ⊥) (take i answers)
 
   pub at_first : Sofar 0 before s₀
   at_first = record {
@@ -81,7 +81,7 @@ module _ {K R : Type 0} (weight : K → Key) (meaning : R → Rule) (s₀ : Stat
             let was = old.memory ample room in
             let left : made calls before - i ≡ made calls before - (i + 1) + 1 = omega arith in
             let now = spared weight meaning (made calls before - (i + 1)) s s' a (subst (λ n. Spare n s) left was.0) c is-sound next in
-            (now.0, subst (All (λ x. number_told x ≡ number Memory → ⊥)) (sym answers-more) (All-push _ (take i answers) a was.1 now.1));
+            (now.0, subst (AllByRecursion (λ x. number_told x ≡ number Memory → ⊥)) (sym answers-more) (All-push _ (take i answers) a was.1 now.1));
       }
 
   pub all_made : (i : ℕ) (answers : List Answer) (s : State) → made calls before ≤ i → sound s.store.world ≡ true → Sofar i answers s → Agreement weight meaning s₀ calls before answers s
@@ -93,5 +93,5 @@ module _ {K R : Type 0} (weight : K → Key) (meaning : R → Rule) (s₀ : Stat
         law = λ new none.
             lawful _ s.store.world s.papers (parts s.store.world good).rows
             (subst (λ n. Agrees (history weight meaning (take n calls) (take n answers)) s.store.world s.papers) e (so.agrees new none));
-        memory = λ ample room. subst (λ n. All (λ a. number_told a ≡ number Memory → ⊥) (take n answers)) e (so.memory ample room).1;
+        memory = λ ample room. subst (λ n. AllByRecursion (λ a. number_told a ≡ number Memory → ⊥) (take n answers)) e (so.memory ample room).1;
       }

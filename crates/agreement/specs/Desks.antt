@@ -1,6 +1,5 @@
 -- What a desk holds.
-use Rattle.std.specs.Prelude.{vec_items, vec_capacity}
-use Rattle.sharing.specs.Words.{map}
+use Rattle.std.specs.Prelude.{vec_items, vec_capacity, map}
 use Rattle.book.specs.World.{store}
 use Rattle.agreement.specs.Runs.{Paper, State, blank_paper, fixed_paper, posted_paper}
 use Rattle.agreement.specs.declared.desk.Desk.{Desk}

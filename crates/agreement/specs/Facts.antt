@@ -1,9 +1,8 @@
 -- What happened to a book, newest first, and the facts that this tells. Nothing here is read off a book.
 pub use Rattle.book.specs.declared.records.MeterEvent.{MeterEvent}
 pub use Rattle.book.specs.declared.records.MeterEvent.TheVariants.{Fault, Repair}
-use Rattle.std.specs.Prelude.{sum_by, slice_set}
+use Rattle.std.specs.Prelude.{sum_by, slice_set, cond, List, [], ◌∷◌, ◌++◌, map, ℕ, ◌+◌, ◌-◌, eqb, get_or, Option, None, unwrap_or}
 use Rattle.std.specs.Option.{option_map}
-use Rattle.sharing.specs.Words.{cond, List, [], ◌∷◌, ◌++◌, map, ℕ, ◌+◌, ◌-◌, eqb, get_or, Option, None, valueOr}
 use Rattle.sharing.specs.Keys.{Key, asked}
 use Rattle.sharing.specs.Rounds.{Rule}
 use Rattle.tariff.specs.declared.row.Row.{Row}
@@ -104,7 +103,7 @@ nodes_metered Repair n r before = slice_set before n (record { month = (get_or b
 
 -- after a posting: the month advances, and a closing register is named
 abbrev pub advanced : Slip → Named → Named
-advanced s n = record { month = n.month + 1; register = valueOr s.closing n.register }
+advanced s n = record { month = n.month + 1; register = unwrap_or s.closing n.register }
 
 -- after a call of the clerk
 abbrev pub nodes_clerked : ClerkEvent → List Named → List Named
@@ -151,7 +150,7 @@ share key os i = record {
   recipient = (get_or os i no_object).recipient;
   row = (get_or os i no_object).row;
   kw = (get_or os i no_object).power;
-  weight = valueOr (asked key (basis os i)) 0;
+  weight = unwrap_or (asked key (basis os i)) 0;
 }
 
 -- a posted month
@@ -172,7 +171,7 @@ posting s key rule h = record {
   node = s.node;
   month = (named s.node h).month;
   slip = s;
-  rise = valueOr (option_map (λ c. c - (named s.node h).register) s.closing) 0;
+  rise = unwrap_or (option_map (λ c. c - (named s.node h).register) s.closing) 0;
   rule = rule;
   shares = map (share key (objects h)) (behind s.node (objects h));
 }

@@ -1,6 +1,5 @@
 -- The history of a list of calls with its answers: the accepted calls, newest first.
-use Rattle.std.specs.Prelude.{drop, vec_items}
-use Rattle.sharing.specs.Words.{List, [], ◌∷◌, ℕ, ◌-◌, get_or, take, Some, Result, Ok, Err}
+use Rattle.std.specs.Prelude.{drop, vec_items, List, [], ◌∷◌, ℕ, ◌-◌, get_or, take, Some, Result, Ok, Err}
 use Rattle.sharing.specs.Keys.{Key, by_power}
 use Rattle.sharing.specs.Rounds.{Rule}
 use Rattle.sharing.specs.Whole.{nearest}

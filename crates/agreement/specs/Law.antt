@@ -1,7 +1,6 @@
 -- Meter and accounts agree.
-use Rattle.std.specs.Prelude.{min, drop, ℤ, pos, ◌+ℤ◌, ◌≢◌, unsigned_abs}
-use Rattle.std.specs.List.{range_with_len}
-use Rattle.sharing.specs.Words.{List, [], map, ◌≡◌, ℕ, ◌+◌, ◌≤◌, ◌<◌, eqb, length, get_or, take, All, sum}
+use Rattle.std.specs.Prelude.{min, drop, ℤ, pos, ◌+ℤ◌, ◌≢◌, unsigned_abs, List, [], map, ◌≡◌, ℕ, ◌+◌, ◌≤◌, ◌<◌, eqb, length, get_or, take, sum}
+use Rattle.std.specs.List.{range_with_len, AllByRecursion}
 use Rattle.sharing.specs.Amounts.{litres, megajoules}
 use Rattle.sharing.specs.Cuts.{shared}
 use Rattle.sharing.specs.Keys.{Key}
@@ -81,9 +80,9 @@ charges_standing q lines xs = summed (λ x. summed_where (λ s. eqb s.recipient 
 
 -- the world w agrees with the history h
 pub record Law (h : List Event) (w : World) : Type 0 where
-  pub heat : All (HeatAgrees w.lines) (months h)
-  pub water : All (WaterAgrees w.lines) (months h)
-  pub charges : (c : Charge) → All (ChargeAgrees (rows h) w.lines c) (months h)
+  pub heat : AllByRecursion (HeatAgrees w.lines) (months h)
+  pub water : AllByRecursion (WaterAgrees w.lines) (months h)
+  pub charges : (c : Charge) → AllByRecursion (ChargeAgrees (rows h) w.lines c) (months h)
   -- a balance is the charges standing to the recipient's objects
   pub balances : (q : ℕ) → balance_of q w ≡ charges_standing q w.lines (months h)
   -- heat fixed for a node's posted months, plus heat carried, is counted rises plus posted estimates
@@ -112,4 +111,4 @@ pub record Agreement {K R : Type 0} (weight : K → Key) (meaning : R → Rule) 
   -- where the book was new and there was no paper yet, meter and accounts agree
   pub law : s.store.world ≡ empty s.store.world.places → s.papers ≡ [] → Law (history weight meaning (take (made calls before) calls) (take (made calls before) answers)) s'.store.world
   -- where there was memory for every place and for a paper for each call, no call wanted any
-  pub memory : Ample s.store → length s.papers + made calls before ≤ s.room → All (λ a. number_told a ≢ number Memory) (take (made calls before) answers)
+  pub memory : Ample s.store → length s.papers + made calls before ≤ s.room → AllByRecursion (λ a. number_told a ≢ number Memory) (take (made calls before) answers)

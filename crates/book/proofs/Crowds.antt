@@ -1,6 +1,6 @@
 -- Objects counted node by node.
 use Rattle.std.proofs.Common.{◌≡◌, ℕ, Bool, ◌+◌, ◌<◌, ◌≤◌, true, false, cond, eqb, ltb, leb, List, [], ◌∷◌, ◌++◌, length, get_or, take, set, replicate, sym, refl, ap, ◌∙◌, subst, ⊎_elim, arith}
-use Rattle.std.specs.List.{list_all, AllByRecursion as All}
+use Rattle.std.specs.List.{list_all, AllByRecursion}
 use Rattle.std.proofs.ByRecursion.{All-get_or, All-push, All-set, All-weaker}
 use Rattle.std.proofs.lemmas.List.{get_or-replicate, get_or-set_same, get_or-set_other, length-set, take_all}
 use Rattle.std.proofs.lemmas.List.Sums.{count_by_more_yes, count_by_more_no, sum_by_push, sum_by-set, sum_by-take-le}
@@ -97,7 +97,7 @@ module _ (objects : List Object) (o : Object) (room : crowd o.node objects < mos
       (cases_eq o.node n)
 
   -- no node has too many, where the one that the object comes to had room
-  pub crowds_push : All (λ x. crowd x.node objects ≤ most_objects) objects → All (λ x. crowd x.node (objects ++ o ∷ []) ≤ most_objects) (objects ++ o ∷ [])
+  pub crowds_push : AllByRecursion (λ x. crowd x.node objects ≤ most_objects) objects → AllByRecursion (λ x. crowd x.node (objects ++ o ∷ []) ≤ most_objects) (objects ++ o ∷ [])
   crowds_push few = All-push _ objects o (All-weaker _ _ (λ x h. still_room x.node h) objects few) (still_room o.node (omega arith))
 
 -- an object that stays behind its node
@@ -108,7 +108,7 @@ crowd-set n objects i o within same =
     omega arith
 
 pub crowds_set : (objects : List Object) (i : ℕ) (o : Object) → i < length objects → o.node ≡ (get_or objects i no_object).node
-    → All (λ x. crowd x.node objects ≤ most_objects) objects → All (λ x. crowd x.node (set objects i o) ≤ most_objects) (set objects i o)
+    → AllByRecursion (λ x. crowd x.node objects ≤ most_objects) objects → AllByRecursion (λ x. crowd x.node (set objects i o) ≤ most_objects) (set objects i o)
 crowds_set objects i o within same few =
     let stays : (n : ℕ) → crowd n objects ≤ most_objects → crowd n (set objects i o) ≤ most_objects = λ n h. let e = crowd-set n objects i o within same in omega arith in
     All-set _ objects i o (stays o.node (subst (λ n. crowd n objects ≤ most_objects) (sym same) (All-get_or _ objects i no_object within few)))

@@ -1,6 +1,6 @@
 -- Every call keeps the tables sound.
 use Rattle.std.proofs.Common.{◌≡◌, ℕ, ◌<◌, ◌≤◌, min, true, false, not, ◌||◌, ltb, leb, List, [], ◌∷◌, ◌++◌, length, None, refl, ⊎_elim, arith}
-use Rattle.std.specs.List.{AllByRecursion as All}
+use Rattle.std.specs.List.{AllByRecursion}
 use Rattle.std.proofs.ByRecursion.{All-get_or, All-push, All-set, All-weaker}
 use Rattle.std.proofs.lemmas.List.{length_push, length-set}
 use Rattle.std.proofs.lemmas.Bool.{and_from, and_parts, leb-false, le-leb, leb-true, lt-ltb, ltb-true, ltb-false, or_cases, or_left, or_parts, or_right}
@@ -53,10 +53,10 @@ module _ (u u' : InUse) (more : Grows u u') where
       (or_cases (not (of_a_month l.kind)) _ recipient.1)))
       names.1
 
-  pub objects-stay : (xs : List Object) → All (λ o. object_good u o ≡ true) xs → All (λ o. object_good u' o ≡ true) xs
+  pub objects-stay : (xs : List Object) → AllByRecursion (λ o. object_good u o ≡ true) xs → AllByRecursion (λ o. object_good u' o ≡ true) xs
   objects-stay xs good = All-weaker _ _ object-stays xs good
 
-  pub lines_stay : (xs : List Line) → All (λ l. line_good u l ≡ true) xs → All (λ l. line_good u' l ≡ true) xs
+  pub lines_stay : (xs : List Line) → AllByRecursion (λ l. line_good u l ≡ true) xs → AllByRecursion (λ l. line_good u' l ≡ true) xs
   lines_stay xs good = All-weaker _ _ line_stays xs good
 
 -- tables with other items in one of them
@@ -79,7 +79,7 @@ module _ (w : World) (s : Sound w) where
       }
 
   pub sound-with_recipients : (xs : List Recipient) → length xs ≤ min w.places.recipients most_recipients → length w.recipients ≤ length xs
-      → All (λ r. recipient_good r ≡ true) xs → Sound (with_recipients w xs)
+      → AllByRecursion (λ r. recipient_good r ≡ true) xs → Sound (with_recipients w xs)
   sound-with_recipients xs few more good =
       let grows : Grows (in_use w) (in_use (with_recipients w xs)) = record { rows = omega arith; recipients = more; nodes = omega arith; objects = omega arith } in
       record {
@@ -97,7 +97,7 @@ module _ (w : World) (s : Sound w) where
       }
 
   pub sound-with_nodes : (xs : List Node) → length xs ≤ min w.places.nodes most_nodes → length w.nodes ≤ length xs
-      → All (λ n. node_good n ≡ true) xs → Sound (with_nodes w xs)
+      → AllByRecursion (λ n. node_good n ≡ true) xs → Sound (with_nodes w xs)
   sound-with_nodes xs few more good =
       let grows : Grows (in_use w) (in_use (with_nodes w xs)) = record { rows = omega arith; recipients = omega arith; nodes = more; objects = omega arith } in
       record {
@@ -115,7 +115,7 @@ module _ (w : World) (s : Sound w) where
       }
 
   pub sound-with_objects : (xs : List Object) → length xs ≤ min w.places.objects most_objects_in_all → length w.objects ≤ length xs
-      → All (λ o. object_good (in_use w) o ≡ true) xs → All (λ o. crowd o.node xs ≤ most_objects) xs → Sound (with_objects w xs)
+      → AllByRecursion (λ o. object_good (in_use w) o ≡ true) xs → AllByRecursion (λ o. crowd o.node xs ≤ most_objects) xs → Sound (with_objects w xs)
   sound-with_objects xs few more good crowds =
       let grows : Grows (in_use w) (in_use (with_objects w xs)) = record { rows = omega arith; recipients = omega arith; nodes = omega arith; objects = more } in
       record {
@@ -153,7 +153,7 @@ node-from : (n : Node) → n.month ≤ month_count → n.register ≤ most_regis
 node-from n month register carried events = and_from _ _ (le-leb _ _ month) (and_from _ _ (le-leb _ _ register) (and_from _ _ (le-leb _ _ carried) (le-leb _ _ events)))
 
 -- a node after a fault or a repair
-after-good : (event : MeterEvent) (n : Node) (r : ℕ) → r ≤ most_register → All (λ p. p.0 ≡ false) (event_why event n r) → node_good n ≡ true → node_good (node_after event n r) ≡ true
+after-good : (event : MeterEvent) (n : Node) (r : ℕ) → r ≤ most_register → AllByRecursion (λ p. p.0 ≡ false) (event_why event n r) → node_good n ≡ true → node_good (node_after event n r) ≡ true
 after-good Fault n r low none good =
     let old = node-parts n good in
     node-from (node_after Fault n r) old.0 low (ltb-false _ _ none.1.1.1.0) (omega (arith, leb-false _ _ none.1.0))

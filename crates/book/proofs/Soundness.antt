@@ -1,6 +1,6 @@
 -- Soundness by its parts.
 use Rattle.std.proofs.Common.{◌≡◌, ◌≤◌, min, Bool, true, false, ◌&&◌, leb, length, None, Ok, Err, Result, sym, refl, ap, ◌∙◌, arith}
-use Rattle.std.specs.List.{list_all, AllByRecursion as All}
+use Rattle.std.specs.List.{list_all, AllByRecursion}
 use Rattle.std.proofs.ByRecursion.{All-weaker}
 use Rattle.std.proofs.lemmas.Bool.{and_from, and_parts, le-leb, leb-true}
 use Rattle.sharing.specs.Limits.{most_objects}
@@ -44,11 +44,11 @@ pub record Sound (w : World) : Type 0 where
   pub objects-fit : length w.objects ≤ min w.places.objects most_objects_in_all
   pub lines_fit : length w.lines ≤ min w.places.lines most_lines
   pub rows : rows_good w.rows ≡ true
-  pub recipients : All (λ r. recipient_good r ≡ true) w.recipients
-  pub nodes : All (λ n. node_good n ≡ true) w.nodes
-  pub objects : All (λ o. object_good (in_use w) o ≡ true) w.objects
-  pub lines : All (λ l. line_good (in_use w) l ≡ true) w.lines
-  pub crowds : All (λ o. crowd o.node w.objects ≤ most_objects) w.objects
+  pub recipients : AllByRecursion (λ r. recipient_good r ≡ true) w.recipients
+  pub nodes : AllByRecursion (λ n. node_good n ≡ true) w.nodes
+  pub objects : AllByRecursion (λ o. object_good (in_use w) o ≡ true) w.objects
+  pub lines : AllByRecursion (λ l. line_good (in_use w) l ≡ true) w.lines
+  pub crowds : AllByRecursion (λ o. crowd o.node w.objects ≤ most_objects) w.objects
 
 -- the test says all of it
 pub parts : (w : World) → sound w ≡ true → Sound w

@@ -1,6 +1,5 @@
 -- The shape of every call: why it is refused, and what it answers and leaves otherwise.
-use Rattle.std.specs.Prelude.{min, vec_items, vec_capacity, Vec, MatchResult}
-use Rattle.sharing.specs.Words.{◌≡◌, ◌⊎◌, Bool, false, ◌&&◌, List, [], ◌∷◌, ◌++◌, ℕ, ◌≤◌, ◌<◌, leb, length, Some, None, Result, Ok, Err}
+use Rattle.std.specs.Prelude.{min, vec_items, vec_capacity, Vec, MatchResult, ◌≡◌, ◌⊎◌, Bool, false, ◌&&◌, List, [], ◌∷◌, ◌++◌, ℕ, ◌≤◌, ◌<◌, leb, length, Some, None, Result, Ok, Err}
 use Rattle.sharing.specs.Refusals.{refusal}
 use Rattle.sharing.specs.declared.refusal.Refusal.{Refusal}
 use Rattle.sharing.specs.declared.refusal.Refusal.TheVariants.{Memory}

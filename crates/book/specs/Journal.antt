@@ -1,6 +1,5 @@
 -- The journal: what stands in its lines.
-use Rattle.std.specs.Prelude.{ℤ, pos, ◌+ℤ◌}
-use Rattle.sharing.specs.Words.{Bool, cond, ◌&&◌, List, [], ◌∷◌, ℕ, eqb}
+use Rattle.std.specs.Prelude.{ℤ, pos, ◌+ℤ◌, Bool, cond, ◌&&◌, List, [], ◌∷◌, ℕ, eqb}
 use Rattle.tariff.specs.declared.charge.Charge.{Charge}
 use Rattle.tariff.specs.declared.charge.Charge.TheVariants.{Power, Fixed, Energy, Variable, Carrier}
 use Rattle.book.specs.Records.{Amounts, Line}

@@ -1,5 +1,5 @@
 -- The limits of tables and stored numbers, each named once here and once in src/limits.rt.
-use Rattle.sharing.specs.Words.{ℕ}
+use Rattle.std.specs.Prelude.{ℕ}
 
 -- the places that a table may have at most: rows
 abbrev pub most_rows : ℕ

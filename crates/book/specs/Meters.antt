@@ -1,6 +1,5 @@
 -- The meter staff's calls: faults and repairs.
-use Rattle.std.specs.Prelude.{slice_set}
-use Rattle.sharing.specs.Words.{Bool, true, false, not, List, [], ◌∷◌, ℕ, ◌+◌, ◌-◌, leb, ltb}
+use Rattle.std.specs.Prelude.{slice_set, Bool, true, false, not, List, [], ◌∷◌, ℕ, ◌+◌, ◌-◌, leb, ltb}
 use Rattle.sharing.specs.Limits.{most_quantity}
 use Rattle.sharing.specs.declared.refusal.Refusal.{Refusal}
 use Rattle.sharing.specs.declared.refusal.Refusal.TheVariants.{Unknown, OutOfRange, WrongMeterState, TooManyEvents, RegisterFalls, TooMuchHeat}

@@ -1,6 +1,5 @@
 -- The office's calls: entering rows, recipients, nodes and objects, and changing objects.
-use Rattle.std.specs.Prelude.{slice_set}
-use Rattle.sharing.specs.Words.{◌||◌, [], ◌∷◌, ◌++◌, ℕ, leb, ltb, length}
+use Rattle.std.specs.Prelude.{slice_set, ◌||◌, [], ◌∷◌, ◌++◌, ℕ, leb, ltb, length}
 use Rattle.sharing.specs.Limits.{most_power, most_area, most_objects}
 use Rattle.sharing.specs.declared.refusal.Refusal.TheVariants.{Full, Unknown, OutOfRange, NodeFull}
 use Rattle.tariff.specs.Rows.{row_why}

@@ -1,5 +1,5 @@
 -- The conditions of every call of this crate stand in the order of their numbers, so that the smallest is answered.
-use Rattle.sharing.specs.Words.{ℕ}
+use Rattle.std.specs.Prelude.{ℕ}
 use Rattle.sharing.specs.Refusals.{Ascending}
 use Rattle.tariff.specs.declared.row.Row.{Row}
 use Rattle.book.specs.Meters.{meter_entry}

@@ -10,8 +10,7 @@ pub use Rattle.book.specs.declared.records.MeterEvent.TheVariants.{Fault, Repair
 pub use Rattle.book.specs.declared.records.Node.{Node}
 pub use Rattle.book.specs.declared.records.Object.{Object}
 pub use Rattle.book.specs.declared.records.Recipient.{Recipient}
-use Rattle.std.specs.Prelude.{ℤ}
-use Rattle.sharing.specs.Words.{List, [], ◌∷◌, ℕ}
+use Rattle.std.specs.Prelude.{ℤ, List, [], ◌∷◌, ℕ}
 
 -- the number of a kind of line
 abbrev pub kind_number : Kind → ℕ

@@ -1,6 +1,6 @@
 -- When stored tables are sound.
-use Rattle.std.specs.Prelude.{min, ℤ, pos, neg_ℤ, count_by, int_le}
-use Rattle.sharing.specs.Words.{Bool, true, false, not, ◌&&◌, ◌||◌, List, ℕ, eqb, leb, ltb, length, all_pass}
+use Rattle.std.specs.Prelude.{min, ℤ, pos, neg_ℤ, count_by, int_le, Bool, true, false, not, ◌&&◌, ◌||◌, List, ℕ, eqb, leb, ltb, length}
+use Rattle.std.specs.List.{list_all}
 use Rattle.sharing.specs.Limits.{most_quantity, most_power, most_area, most_objects}
 use Rattle.tariff.specs.Rows.{rows_good}
 use Rattle.book.specs.Limits.{most_rows, most_recipients, most_nodes, most_objects_in_all, most_lines, month_count, most_register, most_events, most_amount, most_balance}
@@ -53,7 +53,7 @@ numbers_good l =
 
 -- all of that, and its amounts are within their limits
 abbrev pub line_good : InUse → Line → Bool
-line_good used l = names_good used l && (numbers_good l && all_pass amount_good (amounts_in l.amounts))
+line_good used l = names_good used l && (numbers_good l && list_all amount_good (amounts_in l.amounts))
 
 -- how many objects a node has
 abbrev pub crowd : ℕ → List Object → ℕ
@@ -71,16 +71,16 @@ counts_good w =
 -- every record is good
 abbrev pub records_good : World → Bool
 records_good w =
-    all_pass recipient_good w.recipients
-    && (all_pass node_good w.nodes && (all_pass (object_good (in_use w)) w.objects && all_pass (line_good (in_use w)) w.lines))
+    list_all recipient_good w.recipients
+    && (list_all node_good w.nodes && (list_all (object_good (in_use w)) w.objects && list_all (line_good (in_use w)) w.lines))
 
 -- sound: counts within places and limits, rows that keep the rules, names in use, numbers within limits, and no node with too many objects
 unfoldable pub sound : World → Bool
 sound w =
     counts_good w
     && (rows_good w.rows
-    && (all_pass recipient_good w.recipients
-    && (all_pass node_good w.nodes
-    && (all_pass (object_good (in_use w)) w.objects
-    && (all_pass (line_good (in_use w)) w.lines
-    && all_pass (λ o. leb (crowd o.node w.objects) most_objects) w.objects)))))
+    && (list_all recipient_good w.recipients
+    && (list_all node_good w.nodes
+    && (list_all (object_good (in_use w)) w.objects
+    && (list_all (line_good (in_use w)) w.lines
+    && list_all (λ o. leb (crowd o.node w.objects) most_objects) w.objects)))))

@@ -2,8 +2,7 @@
 pub use Rattle.book.specs.declared.tables.InUse.{InUse}
 pub use Rattle.book.specs.declared.tables.Places.{Places}
 pub use Rattle.book.specs.declared.tables.Tables.{Tables}
-use Rattle.std.specs.Prelude.{min, ℤ, pos, vec_items, vec_capacity}
-use Rattle.sharing.specs.Words.{Bool, List, [], ℕ, leb, length, get_or}
+use Rattle.std.specs.Prelude.{min, ℤ, pos, vec_items, vec_capacity, Bool, List, [], ℕ, leb, length, get_or}
 use Rattle.tariff.specs.declared.row.Row.{Row}
 use Rattle.book.specs.Records.{Line, Node, Object, Recipient, Working}
 

@@ -1,7 +1,6 @@
 -- Why a month's heat is refused, and that it is within its limit otherwise.
-use Rattle.std.proofs.Common.{◌≡◌, ℕ, ◌+◌, ◌≤◌, sym, refl, ap, ◌∙◌, subst, arith}
+use Rattle.std.proofs.Common.{◌≡◌, ℕ, ◌+◌, ◌≤◌, sym, refl, ap, ◌∙◌, subst, arith, Bool, true, false, not, ◌||◌, List, [], ◌∷◌, leb, ltb, Option, Some, None, Ok, Err}
 use Rattle.std.proofs.lemmas.Bool.{and_from, and_parts, cond-false, cond-true, false≢true, le-leb, leb-true, lt-ltb, ltb-false, ltb-true, not_from_false, or_parts}
-use Rattle.sharing.specs.Words.{Bool, true, false, not, ◌||◌, List, [], ◌∷◌, leb, ltb, Option, Some, None, Ok, Err}
 use Rattle.sharing.specs.Amounts.{megajoules}
 use Rattle.sharing.specs.Limits.{most_quantity}
 use Rattle.sharing.specs.Refusals.{decided, refusal, unless_refused}

@@ -1,7 +1,7 @@
 -- Opening a month and fixing its heat. Neither writes anything.
 use Rattle.std.specs.Bool.{beq}
 use Rattle.std.specs.Option.{option_map}
-use Rattle.sharing.specs.Words.{Bool, not, ◌&&◌, ◌||◌, List, [], ◌∷◌, ℕ, ◌+◌, eqb, leb, ltb, Option, option_is_some, valueOr}
+use Rattle.std.specs.Prelude.{Bool, not, ◌&&◌, ◌||◌, List, [], ◌∷◌, ℕ, ◌+◌, eqb, leb, ltb, Option, is_some, unwrap_or}
 use Rattle.sharing.specs.Limits.{most_quantity}
 use Rattle.sharing.specs.declared.refusal.Refusal.{Refusal}
 use Rattle.sharing.specs.declared.refusal.Refusal.TheVariants.{Unknown, OutOfRange, RegisterFalls, NotAsDue, NotColder, TooMuchHeat, OutOfDate, NoMonthLeft}
@@ -27,15 +27,15 @@ estimate_due n = not (works n.meter) || ltb 0 n.events
 
 -- a closing register stands exactly where the meter works, and an estimate exactly where one is due
 abbrev pub as_due : Node → Option ℕ → Option Estimate → Bool
-as_due n closing estimate = beq (option_is_some closing) (works n.meter) && beq (option_is_some estimate) (estimate_due n)
+as_due n closing estimate = beq (is_some closing) (works n.meter) && beq (is_some estimate) (estimate_due n)
 
 -- what a closing register rises by over the node's
 abbrev pub rise_to : Node → Option ℕ → ℕ
-rise_to n closing = valueOr (option_map (rise n) closing) 0
+rise_to n closing = unwrap_or (option_map (rise n) closing) 0
 
 -- the heat of an estimate, where there is one
 abbrev pub estimate_heat : Option Estimate → ℕ
-estimate_heat estimate = valueOr (option_map estimated estimate) 0
+estimate_heat estimate = unwrap_or (option_map estimated estimate) 0
 
 -- a month's heat: what is carried, the rise to the closing register, and the estimate
 abbrev pub month_heat : Node → Option ℕ → Option Estimate → ℕ

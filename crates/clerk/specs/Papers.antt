@@ -1,7 +1,7 @@
 -- What papers say.
 pub use Rattle.clerk.specs.declared.paper.Fixing.{Fixing}
 pub use Rattle.clerk.specs.declared.paper.OpenedPaper.{OpenedPaper}
-use Rattle.sharing.specs.Words.{◌≡◌, Bool, false, not, ◌&&◌, leb, ltb, Option, Some, None, Result, Ok, Err}
+use Rattle.std.specs.Prelude.{◌≡◌, Bool, false, not, ◌&&◌, leb, ltb, Option, Some, None, Result, Ok, Err}
 use Rattle.sharing.specs.declared.refusal.Refusal.{Refusal}
 use Rattle.sharing.specs.Limits.{most_quantity}
 use Rattle.book.specs.Limits.{most_register}

@@ -6,7 +6,7 @@ pub use Rattle.readings.specs.declared.fault.ImportFault.TheVariants.{Line, Book
 pub use Rattle.readings.specs.declared.fault.LineFault.{LineFault}
 pub use Rattle.readings.specs.declared.fault.LineFault.TheVariants.{Names, Fields, Field}
 use Rattle.sharing.specs.Refusals.{number}
-use Rattle.sharing.specs.Words.{ℕ}
+use Rattle.std.specs.Prelude.{ℕ}
 use Rattle.sharing.specs.declared.refusal.Refusal.TheVariants.{WrongNames, WrongFieldCount, NotAValue}
 
 -- a fault as it is reported

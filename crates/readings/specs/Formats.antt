@@ -3,8 +3,8 @@ pub use Rattle.readings.specs.declared.columns.Column.{Column}
 pub use Rattle.readings.specs.declared.columns.Column.TheVariants.{First, Second, Third}
 pub use Rattle.readings.specs.declared.columns.Columns.{Columns}
 pub use Rattle.readings.specs.declared.reading.Reading.{Reading}
-use Rattle.std.specs.Prelude.{codes, fold}
-use Rattle.sharing.specs.Words.{Bool, cond, not, ◌&&◌, List, [], ◌∷◌, map, ℕ, suc, zero, ◌+◌, ◌-◌, ◌*◌, eqb, leb, ltb, length, get_or, Option, Some, None, Result, Ok, Err, all_pass}
+use Rattle.std.specs.Prelude.{codes, fold, Bool, cond, not, ◌&&◌, List, [], ◌∷◌, map, ℕ, suc, zero, ◌+◌, ◌-◌, ◌*◌, eqb, leb, ltb, length, get_or, Option, Some, None, Result, Ok, Err}
+use Rattle.std.specs.List.{list_all}
 use Rattle.std.specs.List.{prefix_len}
 use Rattle.std.specs.Str.{all_ascii_digits, bytes_eq}
 use Rattle.readings.specs.Faults.{FieldFault, LineFault, Names, Fields, Field}
@@ -16,7 +16,7 @@ index name fields = prefix_len (λ f. not (bytes_eq f.bytes name)) fields
 
 -- the names line has three fields, with node, closing and water among them
 abbrev pub names_good : List Text → Bool
-names_good fields = three fields && all_pass (λ name. ltb (index name fields) 3) (codes "node" ∷ codes "closing" ∷ codes "water" ∷ [])
+names_good fields = three fields && list_all (λ name. ltb (index name fields) 3) (codes "node" ∷ codes "closing" ∷ codes "water" ∷ [])
 
 -- a column by its number
 abbrev pub column_at : ℕ → Column

@@ -1,5 +1,5 @@
 -- The import of a readings file: each line opens, fixes and posts, up to the first fault.
-use Rattle.sharing.specs.Words.{◌≡◌, List, [], ◌∷◌, ◌++◌, ℕ, ◌+◌, Some, None, Result, Ok, Err}
+use Rattle.std.specs.Prelude.{◌≡◌, List, [], ◌∷◌, ◌++◌, ℕ, ◌+◌, Some, None, Result, Ok, Err}
 use Rattle.std.specs.Prelude.{drop}
 use Rattle.sharing.specs.Keys.{by_power}
 use Rattle.sharing.specs.Whole.{nearest}

@@ -1,6 +1,6 @@
 -- Why the definitions of lines, fields and values are right.
-use Rattle.std.specs.Prelude.{decimal, ◌==◌}
-use Rattle.sharing.specs.Words.{◌≡◌, false, cond, List, [], ◌∷◌, ◌++◌, ℕ, ◌+◌, ◌≤◌, length, Ok, All}
+use Rattle.std.specs.Prelude.{decimal, ◌==◌, ◌≡◌, false, cond, List, [], ◌∷◌, ◌++◌, ℕ, ◌+◌, ◌≤◌, length, Ok}
+use Rattle.std.specs.List.{AllByRecursion}
 use Rattle.readings.specs.Formats.{value_of}
 use Rattle.readings.specs.Texts.{Text, fields_of, lines_from}
 
@@ -11,7 +11,7 @@ Follow at (t ∷ ts) = (t.place ≡ at) × Follow (at + length t.bytes + 1) ts
 
 -- no text has the byte `stop`
 abbrev pub Lack : ℕ → List Text → Type 0
-Lack stop ts = All (λ t. All (λ c. (c == stop) ≡ false) t.bytes) ts
+Lack stop ts = AllByRecursion (λ t. AllByRecursion (λ c. (c == stop) ≡ false) t.bytes) ts
 
 -- the texts, with the byte `stop` after each
 abbrev pub ended : ℕ → List Text → List ℕ

@@ -1,9 +1,8 @@
 -- The journal listing, as bytes.
-use Rattle.std.specs.Prelude.{codes, decimal}
+use Rattle.std.specs.Prelude.{codes, decimal, List, [], ◌∷◌, ◌++◌, ℕ, ◌+◌}
 use Rattle.book.specs.Records.{kind_number}
 use Rattle.book.specs.declared.records.Amounts.{Amounts}
 use Rattle.book.specs.declared.records.Line.{Line}
-use Rattle.sharing.specs.Words.{List, [], ◌∷◌, ◌++◌, ℕ, ◌+◌}
 use Rattle.std.specs.Fmt.{signed_decimal}
 
 -- fields with ";" between them

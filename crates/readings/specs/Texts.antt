@@ -2,8 +2,7 @@
 pub use Rattle.readings.specs.declared.fields.ThreeFields.{ThreeFields}
 pub use Rattle.readings.specs.declared.lines.Lines.{Lines}
 pub use Rattle.readings.specs.declared.piece.Piece.{Piece}
-use Rattle.std.specs.Prelude.{drop}
-use Rattle.sharing.specs.Words.{Bool, cond, List, [], ◌∷◌, ℕ, ◌+◌, eqb, length, Option, Some, None}
+use Rattle.std.specs.Prelude.{drop, Bool, cond, List, [], ◌∷◌, ℕ, ◌+◌, eqb, length, Option, Some, None}
 use Rattle.std.specs.List.{between}
 
 -- some bytes and the place of the first in the file

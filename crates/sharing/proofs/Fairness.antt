@@ -1,7 +1,7 @@
 -- Every sharing is fair.
 use Rattle.std.proofs.Common.{◌≡◌, ℕ, ◌+◌, ◌*◌, ◌/◌, ◌<◌, ◌≤◌, false, leb, List, [], ◌∷◌, map, length, get_or, None, sum, sym, ap, ◌∙◌, ⊎_elim, mul-le-mul_right, add-mul, mul-le-mul, mul-zero, mul-add, div-mul-le_self, arith}
 use native.Mathlib.Nat.{lt-div-mul-add}
-use Rattle.std.specs.List.{AllByRecursion as All}
+use Rattle.std.specs.List.{AllByRecursion}
 use Rattle.std.proofs.lemmas.List.{get_or-map, length-map}
 use Rattle.std.proofs.ByRecursion.{sum_by_le}
 use Rattle.std.proofs.lemmas.Bool.{cases_lt, eqb-false, le-ltb, leb-true, ltb-false, ne_eqb, not-false, or_from, or_parts}
@@ -17,7 +17,7 @@ use Rattle.sharing.proofs.Picked.{none_hold}
 -- what is shared, where nothing is refused
 pub record Shareable (total : ℕ) (weights : List ℕ) : Type 0 where
   pub few : length weights ≤ most_objects
-  pub small : All (λ w. w ≤ most_quantity) weights
+  pub small : AllByRecursion (λ w. w ≤ most_quantity) weights
   pub some : 1 ≤ sum weights
   pub limit : total ≤ most_quantity
 

@@ -1,6 +1,6 @@
 -- A loop that looks for an element which fails a test.
 use Rattle.std.proofs.Common.{◌≡◌, ℕ, suc, ◌+◌, ◌<◌, ◌≤◌, Bool, true, false, ◌&&◌, List, [], ◌∷◌, length, get_or, drop, refl, ap, ◌∙◌, ⊎_elim, arith}
-use Rattle.std.specs.List.{list_all, AllByRecursion as All}
+use Rattle.std.specs.List.{list_all, AllByRecursion}
 use Rattle.std.proofs.ByRecursion.{All-get_or}
 use Rattle.std.proofs.lemmas.List.{at_drop_more, at_drop_all}
 use Rattle.std.proofs.lemmas.Bool.{and_from, and_parts, both_ways, cases_Bool}
@@ -16,12 +16,12 @@ module _ {X : Type 0} (p : X → Bool) (xs : List X) (i : ℕ) where
   none_fails past = at_drop_all (list_all p) xs i past
 
 -- where all pass, each does
-pub all_from_pass : {X : Type 0} (p : X → Bool) (P : X → Type 0) → ((x : X) → p x ≡ true → P x) → (xs : List X) → list_all p xs ≡ true → All P xs
+pub all_from_pass : {X : Type 0} (p : X → Bool) (P : X → Type 0) → ((x : X) → p x ≡ true → P x) → (xs : List X) → list_all p xs ≡ true → AllByRecursion P xs
 all_from_pass p P each [] e = tt
 all_from_pass p P each (x ∷ xs) e = let both = and_parts (p x) (list_all p xs) e in (each x both.0, all_from_pass p P each xs both.1)
 
 -- and the other way round
-pub pass_from_all : {X : Type 0} (p : X → Bool) → (xs : List X) → All (λ x. p x ≡ true) xs → list_all p xs ≡ true
+pub pass_from_all : {X : Type 0} (p : X → Bool) → (xs : List X) → AllByRecursion (λ x. p x ≡ true) xs → list_all p xs ≡ true
 pass_from_all p [] each = refl
 pass_from_all p (x ∷ xs) each = and_from (p x) (list_all p xs) each.0 (pass_from_all p xs each.1)
 

@@ -1,6 +1,6 @@
 -- The weights that a key gives to objects.
 use Rattle.std.proofs.Common.{◌≡◌, ℕ, ◌-◌, ◌≤◌, Bool, true, false, cond, not, List, length, take, is_some, IfSome, Some, None, Ok, Err, sum, Option, unwrap_or, refl, ap, ◌∙◌, arith}
-use Rattle.std.specs.List.{list_all, AllByRecursion as All}
+use Rattle.std.specs.List.{list_all, AllByRecursion}
 use Rattle.std.proofs.ByRecursion.{All-map}
 use Rattle.std.proofs.lemmas.List.{length-map}
 use Rattle.std.proofs.lemmas.Bool.{and_parts, cond-true, cond-false, eq-eqb, le-ltb, leb-true, ne_eqb, or_from, or_right}
@@ -45,7 +45,7 @@ module _ (key : Key) (objects : List Basis) (weights : List ℕ) (range : list_a
       accepted (weighing_why key objects) weights (padded 0 (weights_of key objects)) (ap not range, (le-ltb _ _ few, (or_from _ _ (ap not have) (ne_eqb _ _ some), tt))) are
 
   pub weigh_little : ((object power area : ℕ) → power ≤ most_power → area ≤ most_area → IfSome (key object power area) (λ w. w ≤ most_quantity))
-      → All (λ w. w ≤ most_quantity) (take (length objects) weights)
+      → AllByRecursion (λ w. w ≤ most_quantity) (take (length objects) weights)
   weigh_little light =
       let low : (o : Basis) → in_range o ≡ true → unwrap_or (asked key o) 0 ≤ most_quantity =
       λ o e. let both = and_parts _ _ e in

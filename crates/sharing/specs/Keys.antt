@@ -1,5 +1,6 @@
 -- The weights that sharing keys give to objects.
-use Rattle.sharing.specs.Words.{Bool, cond, not, ◌&&◌, ◌||◌, List, [], ◌∷◌, map, ℕ, ◌≤◌, eqb, leb, ltb, length, Option, Some, None, option_is_some, valueOr, IfSome, all_pass, sum}
+use Rattle.std.specs.Prelude.{Bool, cond, not, ◌&&◌, ◌||◌, List, [], ◌∷◌, map, ℕ, ◌≤◌, eqb, leb, ltb, length, Option, Some, None, is_some, unwrap_or, IfSome, sum}
+use Rattle.std.specs.List.{list_all}
 use Rattle.sharing.specs.Limits.{most_quantity, most_power, most_area, most_objects}
 use Rattle.sharing.specs.Refusals.{Refusal, OutOfRange, NodeFull, NoWeight}
 use Rattle.sharing.specs.declared.key.Basis.{Basis}
@@ -36,7 +37,7 @@ asked key o = key o.object o.power o.area
 
 -- the weights of objects, in their order
 abbrev pub weights_of : Key → List Basis → List ℕ
-weights_of key objects = map (λ o. valueOr (asked key o) 0) objects
+weights_of key objects = map (λ o. unwrap_or (asked key o) 0) objects
 
 -- power and area are within their limits
 abbrev pub in_range : Basis → Bool
@@ -45,7 +46,7 @@ in_range o = leb o.power most_power && leb o.area most_area
 -- why objects are not weighed
 abbrev pub weighing_why : Key → List Basis → List (Bool × Refusal)
 weighing_why key objects =
-    (not (all_pass in_range objects), OutOfRange)
+    (not (list_all in_range objects), OutOfRange)
     ∷ (ltb most_objects (length objects), NodeFull)
-    ∷ (not (all_pass (λ o. option_is_some (asked key o)) objects) || eqb (sum (weights_of key objects)) 0, NoWeight)
+    ∷ (not (list_all (λ o. is_some (asked key o)) objects) || eqb (sum (weights_of key objects)) 0, NoWeight)
     ∷ []

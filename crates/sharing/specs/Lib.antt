@@ -8,6 +8,5 @@ pub mod Refusals
 pub mod Rounds
 pub mod Sharings
 pub mod Whole
-pub mod Words
 pub mod Worked
 pub mod Wholes

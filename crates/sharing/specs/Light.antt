@@ -1,6 +1,6 @@
 -- The weights of sub-meters are within the limit of a weight.
 use Rattle.std.proofs.lemmas.Bool.{cond_both, leb-true}
-use Rattle.sharing.specs.Words.{List, [], ◌∷◌, ℕ, ◌≤◌, eqb, leb, Some, None, IfSome}
+use Rattle.std.specs.Prelude.{List, [], ◌∷◌, ℕ, ◌≤◌, eqb, leb, Some, None, IfSome}
 use Rattle.sharing.specs.Keys.{allowed, by_sub_meter}
 use Rattle.sharing.specs.Limits.{most_quantity}
 use Rattle.sharing.specs.declared.key.SubReading.{SubReading}

@@ -1,5 +1,5 @@
 -- The limits of the quantities, each named once here and once in src/limits.rt.
-use Rattle.sharing.specs.Words.{ℕ}
+use Rattle.std.specs.Prelude.{ℕ}
 
 -- a month's heat (MJ) or water (litres), and a weight
 abbrev pub most_quantity : ℕ

@@ -1,5 +1,5 @@
 -- The conditions of every call of this crate stand in the order of their numbers, so that the smallest is answered.
-use Rattle.sharing.specs.Words.{List, ℕ}
+use Rattle.std.specs.Prelude.{List, ℕ}
 use Rattle.sharing.specs.Cuts.{cut_why}
 use Rattle.sharing.specs.Keys.{Key, weighing_why}
 use Rattle.sharing.specs.Refusals.{Ascending}

@@ -1,8 +1,8 @@
 -- The numbers of the refusals, and which of several is answered.
 pub use Rattle.sharing.specs.declared.refusal.Refusal.{Refusal}
 pub use Rattle.sharing.specs.declared.refusal.Refusal.TheVariants.{Full, Unknown, OutOfRange, WrongMix, NodeFull, PriceTooHigh, WrongMeterState, TooManyEvents, RegisterFalls, NotAsDue, NotColder, TooMuchHeat, NoObservation, OutOfDate, NoObjects, NoWeight, NotPosted, NoMonthLeft, WrongNames, WrongFieldCount, NotAValue, Unsound, Memory}
-use Rattle.std.specs.Prelude.{codes}
-use Rattle.sharing.specs.Words.{◌≡◌, Bool, true, false, cond, ◌⊎◌, List, [], ◌∷◌, ℕ, ◌≤◌, ◌<◌, Option, Some, None, Result, Ok, Err, All}
+use Rattle.std.specs.Prelude.{codes, ◌≡◌, Bool, true, false, cond, ◌⊎◌, List, [], ◌∷◌, ℕ, ◌≤◌, ◌<◌, Option, Some, None, Result, Ok, Err}
+use Rattle.std.specs.List.{AllByRecursion}
 
 -- the number of a refusal
 abbrev pub number : Refusal → ℕ
@@ -77,13 +77,13 @@ Holds (p ∷ ps) f = ((p.0 ≡ true) × (p.1 ≡ f)) ⊎ Holds ps f
 
 -- what is answered has the smallest number of all whose condition holds, and nothing is answered where none holds
 abbrev pub Least : List (Bool × Refusal) → Option Refusal → Type 0
-Least why None = All (λ p. p.0 ≡ false) why
-Least why (Some f) = Holds why f × All (λ p. p.0 ≡ true → number f ≤ number p.1) why
+Least why None = AllByRecursion (λ p. p.0 ≡ false) why
+Least why (Some f) = Holds why f × AllByRecursion (λ p. p.0 ≡ true → number f ≤ number p.1) why
 
 -- each refusal has a smaller number than those after it
 abbrev pub Ascending : List (Bool × Refusal) → Type 0
 Ascending [] = Unit {0}
-Ascending (p ∷ ps) = All (λ q. number p.1 < number q.1) ps × Ascending ps
+Ascending (p ∷ ps) = AllByRecursion (λ q. number p.1 < number q.1) ps × Ascending ps
 
 -- so the smallest number is answered
 abbrev pub Smallest : Type 0

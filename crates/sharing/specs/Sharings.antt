@@ -1,5 +1,6 @@
 -- A total shared by weights: when it is refused, and what holds of every sharing.
-use Rattle.sharing.specs.Words.{◌≡◌, Bool, not, ◌||◌, List, [], ◌∷◌, map, ℕ, ◌+◌, ◌*◌, ◌<◌, eqb, leb, ltb, length, get_or, all_pass, sum}
+use Rattle.std.specs.Prelude.{◌≡◌, Bool, not, ◌||◌, List, [], ◌∷◌, map, ℕ, ◌+◌, ◌*◌, ◌<◌, eqb, leb, ltb, length, get_or, sum}
+use Rattle.std.specs.List.{list_all}
 use Rattle.sharing.specs.Cuts.{Cuts}
 use Rattle.sharing.specs.Limits.{most_quantity, most_objects}
 use Rattle.sharing.specs.Refusals.{Refusal, OutOfRange, NodeFull, NoWeight}
@@ -8,7 +9,7 @@ use Rattle.sharing.specs.Rounds.{Rule}
 -- why a total is not shared by weights
 abbrev pub sharing_why : ℕ → List ℕ → List (Bool × Refusal)
 sharing_why total weights =
-    (ltb most_quantity total || not (all_pass (λ w. leb w most_quantity) weights), OutOfRange)
+    (ltb most_quantity total || not (list_all (λ w. leb w most_quantity) weights), OutOfRange)
     ∷ (ltb most_objects (length weights), NodeFull)
     ∷ (eqb (sum weights) 0, NoWeight)
     ∷ []

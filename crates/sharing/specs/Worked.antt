@@ -1,5 +1,5 @@
 -- Worked cases of sharing, computed from the definitions.
-use Rattle.sharing.specs.Words.{◌≡◌, [], ◌∷◌}
+use Rattle.std.specs.Prelude.{◌≡◌, [], ◌∷◌}
 use Rattle.sharing.specs.Cuts.{shared}
 use Rattle.sharing.specs.Whole.{down, nearest}
 

@@ -1,6 +1,6 @@
 // The weights of a node's objects, asked of a key.
 ghost use Rattle.std.specs.Prelude.{◌≡◌, ◌≤◌, length, take, is_some, IfOk, if◌then◌else◌, Some, None};
-ghost use Rattle.std.specs.List.{list_all, AllByRecursion as All};
+ghost use Rattle.std.specs.List.{list_all, AllByRecursion};
 ghost use Rattle.sharing.specs.Cuts.{padded};
 ghost use Rattle.sharing.specs.Keys.{asked, in_range, weighing_why, weights_of};
 ghost use Rattle.sharing.specs.Limits.{most_objects, most_quantity};
@@ -14,7 +14,7 @@ use crate::share::weight_of;
 // The weight of each object by the key, in their order.
 pub fn weigh<K: SharingKey>(key: &K, objects: &[Basis]) -> Result<[u32; MOST_OBJECTS], Refusal>
     ensures value { result ≡ decided (weighing_why (K.weight key.now) objects.now) (padded 0 (weights_of (K.weight key.now) objects.now)) }
-    ensures small { IfOk result (λ ws. All (λ w. w ≤ most_quantity) (take (length objects.now) ws)) }
+    ensures small { IfOk result (λ ws. AllByRecursion (λ w. w ≤ most_quantity) (take (length objects.now) ws)) }
 {
     if !all_in_range(objects) {
         return Err(Refusal::OutOfRange);

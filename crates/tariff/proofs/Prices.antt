@@ -1,6 +1,6 @@
 -- The prices of rows that keep the rules.
 use Rattle.std.proofs.Common.{◌≡◌, ℕ, zero, suc, ◌+◌, ◌*◌, ◌<◌, ◌≤◌, max, Bool, true, false, not, ◌&&◌, leb, List, [], ◌∷◌, ◌++◌, length, get_or, take, drop, is_some, Some, None, Option, sym, refl, ap, ◌∙◌, mul-le-mul_left, arith}
-use Rattle.std.specs.List.{list_all, AllByRecursion as All}
+use Rattle.std.specs.List.{list_all, AllByRecursion}
 use Rattle.std.proofs.lemmas.List.{append_assoc, append-nil, at_drop_more, length-take-le, take_more}
 use Rattle.std.proofs.lemmas.Bool.{and_from, and_parts, false≢true, eqb-true, leb-true, ltb-true, ltb-false, not-false, or_parts}
 use Rattle.sharing.specs.Refusals.{refusal}
@@ -15,7 +15,7 @@ none_is : (o : Option Refusal) → not (is_some o) ≡ true → o ≡ None
 none_is None e = refl
 none_is (Some f) e = absurd (false≢true e)
 
-each_of_five : (p : Charge → Bool) → list_all p five ≡ true → All (λ c. p c ≡ true) five
+each_of_five : (p : Charge → Bool) → list_all p five ≡ true → AllByRecursion (λ c. p c ≡ true) five
 each_of_five p e = all_from_pass p (λ c. p c ≡ true) (λ c h. h) five e
 
 -- a test of all five is a test of each

@@ -1,8 +1,7 @@
 -- The estimate of heat that no meter counted.
 pub use Rattle.tariff.specs.declared.estimate.Estimate.{Estimate}
 pub use Rattle.tariff.specs.declared.estimate.Formula.{Formula}
-use Rattle.std.specs.Prelude.{ℤ, pos, negsuc, ◌-ℤ◌, neg_ℤ, int_le}
-use Rattle.sharing.specs.Words.{Bool, false, not, ◌&&◌, List, [], ◌∷◌, ℕ, ◌+◌, ◌*◌, leb, ltb}
+use Rattle.std.specs.Prelude.{ℤ, pos, negsuc, ◌-ℤ◌, neg_ℤ, int_le, Bool, false, not, ◌&&◌, List, [], ◌∷◌, ℕ, ◌+◌, ◌*◌, leb, ltb}
 use Rattle.sharing.specs.Limits.{most_quantity}
 use Rattle.sharing.specs.Whole.{nearest}
 use Rattle.sharing.specs.declared.refusal.Refusal.{Refusal}

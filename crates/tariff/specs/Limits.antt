@@ -1,7 +1,6 @@
 -- The limits of days and temperatures, each named once here and once in src/limits.rt.
-use Rattle.std.specs.Prelude.{from_bits, Float}
+use Rattle.std.specs.Prelude.{from_bits, Float, ℕ}
 use Rattle.std.specs.Float.{binary64}
-use Rattle.sharing.specs.Words.{ℕ}
 
 -- the days of the longest month, and the lines of a period
 abbrev pub most_days : ℕ

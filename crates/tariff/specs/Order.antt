@@ -1,5 +1,5 @@
 -- The conditions of every call of this crate stand in the order of their numbers, so that the smallest is answered.
-use Rattle.sharing.specs.Words.{List, ℕ}
+use Rattle.std.specs.Prelude.{List, ℕ}
 use Rattle.sharing.specs.Refusals.{Ascending}
 use Rattle.tariff.specs.Estimates.{Estimate, estimate_why}
 use Rattle.tariff.specs.Rows.{Row, price_why, row_why}

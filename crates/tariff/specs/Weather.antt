@@ -1,9 +1,9 @@
 -- The mean temperature of a period, in tenths of °C, from its weather lines.
 use Rattle.std.specs.Float.{nan, inf, fin, binary64}
 use Rattle.std.specs.Float.Ieee.{add, mul, div, le, neg, up, down}
-use Rattle.std.specs.Prelude.{◌/◌, ℤ, pos, ◌+ℤ◌, neg_ℤ, ◌≤ℤ◌, fold, from_bits, Float}
+use Rattle.std.specs.Prelude.{◌/◌, ℤ, pos, ◌+ℤ◌, neg_ℤ, ◌≤ℤ◌, fold, from_bits, Float, Bool, true, false, not, ◌&&◌, ◌||◌, List, [], ◌∷◌, ◌++◌, ℕ, ◌+◌, ◌*◌, eqb, ltb, length, Option, Some, None}
 use Rattle.std.specs.Int.{int_div_euclid}
-use Rattle.sharing.specs.Words.{Bool, true, false, not, ◌&&◌, ◌||◌, List, [], ◌∷◌, ◌++◌, ℕ, ◌+◌, ◌*◌, eqb, ltb, length, Option, Some, None, all_pass}
+use Rattle.std.specs.List.{list_all}
 use Rattle.sharing.specs.declared.refusal.Refusal.{Refusal}
 use Rattle.sharing.specs.declared.refusal.Refusal.TheVariants.{OutOfRange, NoObservation}
 pub use Rattle.tariff.specs.Limits.{most_days, most_degrees, most_tenths}
@@ -78,7 +78,7 @@ mean zs = halves_up (fold ◌+ℤ◌ (pos 0) zs) (length zs)
 
 -- why a period is refused: too many lines or one that is not good, then no observed day
 abbrev pub period_why : List WeatherLine → List (Bool × Refusal)
-period_why ls = (ltb most_days (length ls) || not (all_pass line_good ls), OutOfRange) ∷ (eqb (length (all_observed ls)) 0, NoObservation) ∷ []
+period_why ls = (ltb most_days (length ls) || not (list_all line_good ls), OutOfRange) ∷ (eqb (length (all_observed ls)) 0, NoObservation) ∷ []
 
 -- the mean of a period over its observed days
 abbrev pub period_mean : List WeatherLine → ℤ
