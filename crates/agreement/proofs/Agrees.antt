@@ -1,5 +1,5 @@
 -- What a run from new keeps: the book and the papers agree with the history.
-use Rattle.std.proofs.Common.{◌≡◌, ℕ, ◌+◌, ◌-◌, ◌*◌, ◌<◌, ◌≤◌, Bool, true, false, cond, eqb, List, [], ◌∷◌, ◌++◌, map, length, get_or, take, set, ℤ, pos, ◌+ℤ◌, sym, refl, ap, ◌∙◌, subst, inl, inr, arith}
+use Rattle.std.proofs.Common.{◌≡◌, ℕ, ◌+◌, ◌-◌, ◌*◌, ◌<◌, ◌≤◌, true, cond, eqb, List, [], ◌∷◌, ◌++◌, map, length, get_or, set, pos, sym, refl, ap, ◌∙◌, subst, inl, inr, arith}
 use Rattle.std.specs.List.{range_with_len, AllByRecursion}
 use Rattle.std.proofs.ByRecursion.{All-get_or, All-map, All-weaker}
 use Rattle.std.proofs.lemmas.List.{get_or_past, length_push, length-set, take-append-le, take_all}
@@ -14,7 +14,6 @@ use Rattle.tariff.specs.declared.charge.Charge.{Charge}
 use Rattle.tariff.specs.declared.charges.Use.{Use}
 use Rattle.tariff.specs.declared.row.Row.{Row}
 use Rattle.tariff.proofs.WorkedOut.{worked_out-below}
-use Rattle.book.specs.Journal.{charge_of, heat_of, standing, water_of}
 use Rattle.book.specs.Meters.{meter_entry, node_after, works}
 use Rattle.book.specs.Sound.{of_a_month}
 use Rattle.book.specs.Office.{changed}
@@ -23,16 +22,16 @@ use Rattle.book.specs.declared.records.Line.{Line}
 use Rattle.book.specs.declared.records.Node.{Node}
 use Rattle.book.specs.declared.records.Object.{Object}
 use Rattle.book.specs.declared.records.Recipient.{Recipient}
-use Rattle.agreement.specs.Facts.{Event, Month, OfficeEvent, Share, Fault, Repair, clerk, meter, months, named, node_entered, nodes, object_changed, object_entered, objects, office, over_months, papers, recipient_entered, rises, row_entered, rows}
+use Rattle.agreement.specs.Facts.{Event, Month, Fault, Repair, meter, months, named, node_entered, nodes, object_changed, object_entered, objects, office, over_months, papers, recipient_entered, rises, row_entered, rows}
 use Rattle.agreement.specs.Law.{ChargeAgrees, Law, charges_standing, no_share}
 use Rattle.agreement.specs.Runs.{Paper}
 use Rattle.agreement.proofs.Balances.{balance_in}
 use Rattle.agreement.proofs.Lists.{map_same}
 use Rattle.agreement.proofs.MonthLines.{counting_low}
 use Rattle.agreement.proofs.Months.{Fit, MonthStands, charge_agrees, heat-agrees, month-used, water-agrees}
-use Rattle.agreement.proofs.Nodes.{NodeFits, NodesFit, nodes-keep, nodes-push, nodes-set}
+use Rattle.agreement.proofs.Nodes.{NodesFit, nodes-keep, nodes-push, nodes-set}
 use Rattle.agreement.proofs.Papers.{Moves, PapersFit, moves_push, moves_set, node_in, papers-move}
-use Rattle.agreement.proofs.Places.{push_cases, push_other, set_cases}
+use Rattle.agreement.proofs.Places.{push_cases, set_cases}
 
 -- heat fixed and carried are rises and estimates, and a node without events carries nothing
 abbrev pub MeterFits : List Event → ℕ → Node → Type 0

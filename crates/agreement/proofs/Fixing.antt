@@ -1,5 +1,5 @@
 -- Opening and fixing keep the agreement.
-use Rattle.std.proofs.Common.{◌≡◌, ℕ, ◌<◌, Bool, true, false, not, ◌||◌, eqb, ltb, List, [], ◌∷◌, ◌++◌, length, get_or, set, is_some, None, Option, sym, refl, ap, ◌∙◌, subst, inr, ⊎_elim, arith}
+use Rattle.std.proofs.Common.{◌≡◌, ℕ, ◌<◌, Bool, true, false, ltb, List, [], ◌∷◌, ◌++◌, length, get_or, set, None, Option, sym, refl, ◌∙◌, subst, inr, ⊎_elim, arith}
 use mathlib.Core.Bool.{beq}
 use Rattle.std.proofs.lemmas.List.{get_or_past}
 use Rattle.std.proofs.lemmas.Bool.{and_parts, cases_lt, eqb-true, false≢true, leb-false, ltb-false, not-false, or_parts}
@@ -9,12 +9,11 @@ use Rattle.sharing.proofs.Picked.{none_hold}
 use Rattle.tariff.specs.declared.estimate.Estimate.{Estimate}
 use Rattle.book.specs.World.{World}
 use Rattle.clerk.specs.Fixings.{estimate_heat, fix_why, fixing_of, opened}
-use Rattle.clerk.specs.declared.paper.Fixing.{Fixing}
 use Rattle.clerk.specs.declared.paper.OpenedPaper.{OpenedPaper}
 use Rattle.agreement.specs.Facts.{Event, blank, clerk, paper_fixed, paper_opened, papers}
 use Rattle.agreement.specs.Runs.{Paper, blank_paper, fixed_paper, posted_paper}
 use Rattle.agreement.proofs.Agrees.{Agrees}
-use Rattle.agreement.proofs.Papers.{PaperFits, PapersFit, papers-push, papers-set}
+use Rattle.agreement.proofs.Papers.{PaperFits, papers-push, papers-set}
 
 pub same_bool : (a b : Bool) → beq a b ≡ true → a ≡ b
 same_bool true true e = refl

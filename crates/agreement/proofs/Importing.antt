@@ -1,6 +1,6 @@
 -- An import keeps the agreement: it is the postings of the lines that it took.
-use Rattle.std.proofs.Common.{◌≡◌, ℕ, suc, ◌+◌, ◌-◌, ◌≤◌, Bool, true, false, not, ◌||◌, ltb, List, [], ◌∷◌, take, drop, Some, None, Ok, Err, Result, sym, refl, ap, ◌∙◌, subst, inr, le_trans, arith, lit≤}
-use Rattle.std.proofs.lemmas.Bool.{and_parts, eqb-true, leb-false, ltb-false, not-false, or_parts}
+use Rattle.std.proofs.Common.{◌≡◌, ℕ, suc, ◌+◌, ◌-◌, ◌≤◌, true, false, not, ltb, List, [], ◌∷◌, take, drop, Some, None, Ok, Err, Result, sym, refl, ap, ◌∙◌, subst, inr, le_trans, arith, lit≤}
+use Rattle.std.proofs.lemmas.Bool.{and_parts, leb-false, ltb-false, not-false, or_parts}
 use Rattle.sharing.specs.Keys.{by_power}
 use Rattle.sharing.specs.Limits.{most_quantity}
 use Rattle.sharing.specs.Refusals.{refusal}
@@ -12,7 +12,6 @@ use Rattle.book.specs.Meters.{works}
 use Rattle.book.specs.World.{Store, World, node_at}
 use Rattle.book.proofs.Soundness.{Sound}
 use Rattle.clerk.specs.Fixings.{estimate_due, fix_why, opened}
-use Rattle.readings.specs.Faults.{stopped}
 use Rattle.readings.specs.Formats.{columns_by, reading_of}
 use Rattle.readings.specs.Imports.{Begins, Ends, Goes, Imported, Taken, TakesLine, reading_entry, reading_fixing}
 use Rattle.readings.specs.Texts.{Text, first, lines_from}

@@ -9,6 +9,7 @@ pub mod Nodes
 pub mod Papers
 pub mod Places
 pub mod Posting
+pub mod Slots
 pub mod Spared
 pub mod Standing
 pub mod Steps

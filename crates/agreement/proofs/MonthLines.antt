@@ -1,31 +1,29 @@
 -- The lines that a posting writes, and what they make stand.
-use Rattle.std.proofs.Common.{◌≡◌, ℕ, zero, suc, ◌+◌, ◌*◌, ◌<◌, ◌≤◌, Bool, false, eqb, List, [], ◌∷◌, ◌++◌, map, length, get_or, ℤ, pos, ◌+ℤ◌, sum, sym, refl, ap, ◌∙◌, subst, arith}
+use Rattle.std.proofs.Common.{◌≡◌, ℕ, zero, suc, ◌+◌, ◌*◌, ◌<◌, ◌≤◌, false, eqb, List, [], ◌∷◌, ◌++◌, map, length, get_or, ℤ, pos, sum, sym, refl, ap, ◌∙◌, subst, arith}
 use Rattle.std.specs.List.{range_with_len, AllByRecursion}
 use Rattle.std.proofs.lemmas.List.FromFn.{length-map-range_with_len}
 use Rattle.std.proofs.ByRecursion.{All-map, All-weaker}
 use Rattle.std.proofs.lemmas.List.{get_or-map, length-map}
 use Rattle.std.proofs.lemmas.Int.{ints}
 use Rattle.sharing.specs.Amounts.{litres, megajoules}
-use Rattle.sharing.specs.Cuts.{cut, shared}
+use Rattle.sharing.specs.Cuts.{shared}
 use Rattle.sharing.specs.Keys.{Key}
 use Rattle.sharing.specs.Rounds.{Rule}
 use Rattle.sharing.specs.Whole.{nearest}
 use Rattle.sharing.proofs.Parts.{length_cut}
 use Rattle.tariff.specs.Charges.{divisor}
-use Rattle.tariff.specs.Uses.{charged, quantity, worth}
-use Rattle.tariff.specs.Rows.{price}
+use Rattle.tariff.specs.Uses.{charged, worth}
 use Rattle.tariff.specs.declared.charge.Charge.{Charge}
 use Rattle.tariff.specs.declared.charge.Charge.TheVariants.{Power, Fixed, Energy, Variable, Carrier}
 use Rattle.tariff.specs.declared.charges.Use.{Use}
-use Rattle.tariff.specs.declared.row.Row.{Row}
 use Rattle.book.specs.Journal.{charge_of, heat_of, standing, water_of}
 use Rattle.book.specs.World.{World, no_object}
 use Rattle.book.specs.declared.records.Line.{Line}
 use Rattle.book.specs.declared.records.Object.{Object}
-use Rattle.clerk.specs.Postings.{behind, month_line, month_lines, month_uses, node_weights}
+use Rattle.clerk.specs.Postings.{behind, month_lines, month_uses, node_weights}
 use Rattle.clerk.specs.declared.paper.Fixing.{Fixing}
 use Rattle.agreement.specs.Facts.{Month, Share, share}
-use Rattle.agreement.specs.Law.{all_stand, no_share, stands, uses_of, weights}
+use Rattle.agreement.specs.Law.{all_stand, no_share, stands, uses_of}
 use Rattle.agreement.proofs.Lists.{Apart, by_place, kept_apart, map_same, map-twice}
 use Rattle.agreement.proofs.Standing.{MonthLine, of_it, own, standing-append, standing-none}
 

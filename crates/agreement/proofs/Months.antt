@@ -1,12 +1,12 @@
 -- Posted months whose parts stand in the journal.
-use Rattle.std.proofs.Common.{◌≡◌, ℕ, ◌*◌, ◌<◌, ◌≤◌, Bool, true, ltb, leb, List, [], ◌∷◌, map, length, get_or, pos, nat_abs, sum, sym, refl, ap, ◌∙◌, subst, arith, lit≤}
+use Rattle.std.proofs.Common.{◌≡◌, ℕ, ◌*◌, ◌<◌, ◌≤◌, true, ltb, List, map, length, get_or, pos, nat_abs, sum, sym, ap, ◌∙◌, subst, arith, lit≤}
 use Rattle.std.specs.List.{range_with_len, list_all, AllByRecursion}
 use Rattle.std.proofs.lemmas.List.FromFn.{length-map-range_with_len}
 use Rattle.std.proofs.ByRecursion.{All-get_or, All-map, All-weaker}
 use Rattle.std.proofs.lemmas.List.{get_or-map, length-map}
 use Rattle.std.proofs.lemmas.List.Sums.{get_or-le-sum_by}
 use Rattle.std.proofs.lemmas.Bool.{and_from, le-leb, lt-ltb}
-use Rattle.sharing.specs.Cuts.{Cuts, cut, shared}
+use Rattle.sharing.specs.Cuts.{shared}
 use Rattle.sharing.specs.Limits.{most_divisor, most_power, most_quantity}
 use Rattle.sharing.specs.Rounds.{Rounds}
 use Rattle.sharing.specs.Sharings.{Close}
@@ -24,9 +24,7 @@ use Rattle.tariff.specs.declared.charges.Use.{Use}
 use Rattle.tariff.specs.declared.row.Row.{Row}
 use Rattle.tariff.proofs.Worth.{worth-low}
 use Rattle.book.specs.Journal.{charge_of, heat_of, summed, water_of}
-use Rattle.book.specs.World.{new_node}
 use Rattle.book.specs.declared.records.Line.{Line}
-use Rattle.book.specs.declared.records.Node.{Node}
 use Rattle.agreement.specs.Facts.{Month, Share}
 use Rattle.agreement.specs.Law.{ChargeAgrees, HeatAgrees, WaterAgrees, all_stand, no_share, standing_uses, uses_of, weights}
 use Rattle.agreement.proofs.Lists.{abs_pos, summed-pos}

@@ -1,7 +1,6 @@
 -- Nodes agree with the history: their next months, and the registers of working meters.
-use Rattle.std.proofs.Common.{◌≡◌, ℕ, ◌<◌, ◌≤◌, true, false, List, [], ◌∷◌, ◌++◌, length, get_or, set, sym, refl, ap, ◌∙◌, subst, arith}
+use Rattle.std.proofs.Common.{◌≡◌, ℕ, ◌<◌, true, List, [], ◌∷◌, ◌++◌, length, get_or, set, sym, refl, ◌∙◌, subst, arith}
 use Rattle.std.proofs.lemmas.List.{length_push, length-set, set-get_or}
-use Rattle.std.proofs.lemmas.Bool.{false≢true}
 use Rattle.book.specs.Meters.{works}
 use Rattle.book.specs.World.{new_node}
 use Rattle.book.specs.declared.records.Node.{Node}

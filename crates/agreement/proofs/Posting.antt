@@ -1,13 +1,12 @@
 -- A posting keeps the agreement.
-use Rattle.std.proofs.Common.{◌≡◌, ℕ, ◌+◌, ◌-◌, ◌<◌, ◌≤◌, Bool, true, false, cond, not, ◌&&◌, eqb, ltb, leb, ◌⊎◌, List, [], ◌∷◌, ◌++◌, map, length, get_or, set, ℤ, pos, ◌+ℤ◌, is_some, IfSome, Some, None, sum_by, sum, count_by, filter, Option, unwrap_or, sym, refl, ap, ◌∙◌, subst, inl, inr, ⊎_elim, arith}
-use mathlib.Core.Bool.{beq}
+use Rattle.std.proofs.Common.{◌≡◌, ℕ, ◌+◌, ◌-◌, ◌<◌, ◌≤◌, true, false, cond, not, eqb, ltb, leb, List, [], ◌∷◌, ◌++◌, map, length, get_or, set, ℤ, pos, is_some, IfSome, Some, None, sum, count_by, Option, unwrap_or, sym, refl, ap, ◌∙◌, subst, inl, inr, ⊎_elim, arith}
 use Rattle.std.specs.List.{range_with_len, list_all, AllByRecursion}
 use Rattle.std.specs.Option.{option_map}
 use Rattle.std.proofs.ByRecursion.{All-append, All-get_or, all_kept_by, All-map, All-push, All-weaker, kept_by_passes}
-use Rattle.std.proofs.lemmas.List.{get_or_past, get_or-set_same, length-map, length_push, length-set}
+use Rattle.std.proofs.lemmas.List.{get_or_past, get_or-set_same, length-set}
 use Rattle.std.proofs.lemmas.Int.{ints}
 use Rattle.std.proofs.lemmas.List.Sums.{length-filter, sum-map, sum_by_push}
-use Rattle.std.proofs.lemmas.Bool.{and_parts, cases_Bool, cases_lt, cond-false, cond-true, eq-eqb, eqb-false, eqb-true, leb-false, leb-true, ltb-true, ne_eqb, not-false, or_parts}
+use Rattle.std.proofs.lemmas.Bool.{and_parts, cases_Bool, cases_lt, cond-false, cond-true, eq-eqb, eqb-false, eqb-true, leb-true, ltb-true, ne_eqb, not-false, or_parts}
 use Rattle.sharing.specs.Cuts.{shared}
 use Rattle.sharing.specs.Keys.{Key, asked}
 use Rattle.sharing.specs.Limits.{most_area, most_objects, most_power, most_quantity}
@@ -21,29 +20,26 @@ use Rattle.book.specs.World.{World, in_use, no_object}
 use Rattle.book.specs.declared.records.Object.{Object}
 use Rattle.book.proofs.Soundness.{Sound}
 use Rattle.book.specs.Journal.{charge_of, heat_of, standing, summed, summed_where, water_of}
-use Rattle.book.specs.Meters.{works}
-use Rattle.book.specs.World.{new_node, node_at}
+use Rattle.book.specs.World.{new_node}
 use Rattle.book.specs.declared.records.Line.{Line}
 use Rattle.book.specs.declared.records.Node.{Node}
 use Rattle.clerk.specs.Fixings.{rise_to}
 use Rattle.clerk.specs.Postings.{basis, behind, month_lines, node_weights, post_entry, posted_node}
 use Rattle.clerk.specs.Writing.{after_lines, owed, together}
 use Rattle.clerk.specs.declared.paper.Fixing.{Fixing}
-use Rattle.tariff.specs.Charges.{five}
 use Rattle.tariff.specs.Uses.{charged}
 use Rattle.tariff.specs.declared.charge.Charge.{Charge}
 use Rattle.tariff.specs.declared.charge.Charge.TheVariants.{Power, Fixed, Energy, Variable, Carrier}
-use Rattle.tariff.specs.declared.row.Row.{Row}
-use Rattle.agreement.specs.Facts.{Event, Month, Named, Share, Slip, advanced, blank, clerk, month_posted, months, named, nodes, objects, over_months, papers, posting, rises, rows, share}
+use Rattle.agreement.specs.Facts.{Event, Month, Share, Slip, advanced, blank, clerk, month_posted, months, named, nodes, objects, over_months, papers, posting, share}
 use Rattle.agreement.specs.Law.{all_stand, charges_stand, charges_standing, stands, uses_of, weights}
 use Rattle.agreement.specs.Runs.{Paper, fixed_paper, posted_paper}
-use Rattle.agreement.proofs.Agrees.{Agrees, Later, LineBefore, MeterFits, MonthFits, later_set, lines-later, month-later}
+use Rattle.agreement.proofs.Agrees.{Agrees, Later, LineBefore, MeterFits, MonthFits, later_set, lines-later}
 use Rattle.agreement.proofs.Balances.{balance_after, balance_in}
-use Rattle.agreement.proofs.Months.{Fit, MonthStands, heat-parts, month-used, water-parts}
-use Rattle.agreement.proofs.Nodes.{NodeFits, NodesFit, nodes-set}
-use Rattle.agreement.proofs.Papers.{Current, Dated, PaperFits, PapersFit, Written, moves_set, node_in, papers-move, papers-spent}
+use Rattle.agreement.proofs.Months.{Fit, MonthStands}
+use Rattle.agreement.proofs.Nodes.{nodes-set}
+use Rattle.agreement.proofs.Papers.{Current, Dated, PaperFits, Written, moves_set, node_in, papers-move, papers-spent}
 use Rattle.agreement.proofs.Places.{set_cases}
-use Rattle.agreement.proofs.Standing.{MonthLine, of_another, of_it, standing-append, standing-none}
+use Rattle.agreement.proofs.Standing.{of_another, of_it, standing-append, standing-none}
 use Rattle.agreement.proofs.Lists.{by_place, map_same, map-twice, summed-append, summed-map, summed_same}
 use Rattle.agreement.proofs.MonthLines.{all_stand-new, are_month-lines, counting_low, heats, length-weights, line_charges, line_heats, line_objects, line_recipients, line_stands, line_waters, map-self, shares, shares-weigh, waters}
 

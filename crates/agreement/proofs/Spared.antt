@@ -1,5 +1,5 @@
 -- Where the tables have memory for every place, no call wants any.
-use Rattle.std.proofs.Common.{◌≡◌, ℕ, ◌+◌, ◌<◌, ◌≤◌, min, Bool, true, false, List, [], ◌∷◌, length, drop, Some, None, Ok, Err, vec_items, Option, Result, sym, refl, ap, ◌∙◌, subst, ⊎_elim, arith, lit<}
+use Rattle.std.proofs.Common.{◌≡◌, ℕ, ◌+◌, ◌<◌, ◌≤◌, min, Bool, true, List, [], ◌∷◌, length, drop, Some, None, Ok, Err, vec_items, Option, Result, sym, refl, ap, ◌∙◌, subst, ⊎_elim, arith, lit<}
 use Rattle.std.specs.List.{AllByRecursion}
 use Rattle.std.proofs.lemmas.List.FromFn.{length-map-range_with_len}
 use Rattle.std.proofs.lemmas.List.{length-append, length_push, length-set}
@@ -19,7 +19,6 @@ use Rattle.book.specs.declared.records.MeterEvent.{MeterEvent}
 use Rattle.book.specs.declared.records.MeterEvent.TheVariants.{Fault, Repair}
 use Rattle.book.specs.declared.records.Node.{Node}
 use Rattle.book.specs.declared.records.Object.{Object}
-use Rattle.book.specs.declared.tables.Places.{Places}
 use Rattle.book.proofs.Keeping.{keeps_node, keeps_object, keeps_recipient, keeps_row}
 use Rattle.book.proofs.Soundness.{Sound}
 use Rattle.sharing.specs.Keys.{Key}

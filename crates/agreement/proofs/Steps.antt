@@ -1,5 +1,5 @@
 -- Each call of a list keeps the agreement of book and history.
-use Rattle.std.proofs.Common.{◌≡◌, ℕ, List, ◌∷◌, set, Some, None, Ok, Err, vec_items, Option, Result, sym, refl, ap, ◌∙◌, subst}
+use Rattle.std.proofs.Common.{◌≡◌, ℕ, List, ◌∷◌, set, Some, None, Ok, Err, vec_items, Option, Result, sym, refl, subst}
 use Rattle.std.proofs.lemmas.Bool.{leb-false, ltb-false, not-false}
 use Rattle.sharing.specs.Keys.{Key, Light}
 use Rattle.sharing.specs.Refusals.{refusal, unless_refused}

@@ -1,5 +1,5 @@
 -- Meter and accounts agree.
-use Rattle.std.specs.Prelude.{min, drop, ℤ, pos, ◌+ℤ◌, ◌≢◌, unsigned_abs, List, [], map, ◌≡◌, ℕ, ◌+◌, ◌≤◌, ◌<◌, eqb, length, get_or, take, sum}
+use Rattle.std.specs.Prelude.{min, drop, ℤ, pos, ◌≢◌, unsigned_abs, List, [], map, ◌≡◌, ℕ, ◌+◌, ◌≤◌, ◌<◌, eqb, length, get_or, take, sum}
 use Rattle.std.specs.List.{range_with_len, AllByRecursion}
 use Rattle.sharing.specs.Amounts.{litres, megajoules}
 use Rattle.sharing.specs.Cuts.{shared}

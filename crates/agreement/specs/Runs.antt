@@ -1,5 +1,5 @@
 -- A run of a list of calls: every answer, and what it leaves, is the outcome of the call's definition, one after the other.
-use Rattle.std.specs.Prelude.{vec_items, slice_set, List, [], ◌∷◌, ◌++◌, map, ◌≡◌, ◌⊎◌, ℕ, ◌≤◌, length, get_or, Option, None, Some, Result, Ok, Err}
+use Rattle.std.specs.Prelude.{vec_items, slice_set, List, [], ◌∷◌, ◌++◌, ◌≡◌, ◌⊎◌, ℕ, ◌≤◌, length, get_or, Option, None, Some, Result, Ok, Err}
 use Rattle.sharing.specs.Keys.{Key}
 use Rattle.sharing.specs.Refusals.{decided, refusal}
 use Rattle.sharing.specs.Rounds.{Rule}
