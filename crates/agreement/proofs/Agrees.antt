@@ -204,7 +204,7 @@ module _ (h : List Event) (w : World) (ps : List Paper) (a : Agrees h w ps) wher
       }
 
   -- a node changes, and the history with it
-  module _ (k : ℕ) (new : Node) (within : k < length w.nodes) (e : Event) (same_rows : rows (e ∷ h) ≡ rows h) (same-objects : objects (e ∷ h) ≡ objects h) (same-papers : papers (e ∷ h) ≡ papers h) (same-months : months (e ∷ h) ≡ months h)
+  module _ (k : ℕ) (new : Node) (within : k < length w.nodes) (e : Event) (same_rows : rows (e ∷ h) ≡ rows h) (same_objects : objects (e ∷ h) ≡ objects h) (same_papers : papers (e ∷ h) ≡ papers h) (same_months : months (e ∷ h) ≡ months h)
       (named-are : NodesFit (set w.nodes k new) (nodes (e ∷ h))) (moved : Moves (node_in w.nodes k) new) (month : (node_in w.nodes k).month ≤ new.month)
       (here : MeterFits (e ∷ h) k new) (elsewhere : (n : ℕ) → (n ≡ k → ⊥) → MeterFits (e ∷ h) n (node_in w.nodes n)) where
     agrees_set : Agrees (e ∷ h) (with_nodes w (set w.nodes k new)) ps
@@ -212,15 +212,15 @@ module _ (h : List Event) (w : World) (ps : List Paper) (a : Agrees h w ps) wher
         let later = later_set w.nodes k new within month in
         record {
           rows_are = a.rows_are ∙ sym same_rows;
-          objects-are = a.objects-are ∙ sym same-objects;
+          objects-are = a.objects-are ∙ sym same_objects;
           named-are = named-are;
           metered = set_cases (new_node 0 0) w.nodes new (λ n x. MeterFits (e ∷ h) n x) k within here elsewhere;
-          papers-are = subst (PapersFit (set w.nodes k new) ps) (sym same-papers)
+          papers-are = subst (PapersFit (set w.nodes k new) ps) (sym same_papers)
               (papers-move w.nodes _ (omega (arith, length-set w.nodes k new)) (moves_set w.nodes k new within moved) ps (papers h) a.papers-are);
           lines_are = lines-later w.nodes _ later w.lines a.lines_are;
-          months-are = subst (AllByRecursion (MonthFits w.rows w.lines (set w.nodes k new))) (sym same-months)
+          months-are = subst (AllByRecursion (MonthFits w.rows w.lines (set w.nodes k new))) (sym same_months)
               (All-weaker _ _ (month-later w.nodes _ later w.rows w.lines) (months h) a.months-are);
-          balances = λ q. a.balances q ∙ ap (charges_standing q w.lines) (sym same-months);
+          balances = λ q. a.balances q ∙ ap (charges_standing q w.lines) (sym same_months);
         }
 
   module _ (k r : ℕ) (within : k < length w.nodes) where
@@ -229,7 +229,7 @@ module _ (h : List Event) (w : World) (ps : List Paper) (a : Agrees h w ps) wher
     agrees_fault working rises-to =
         let fits = a.named-are.each k in
         agrees_set k (node_after Fault (node_at k w) r) within (meter Fault k r) refl refl refl refl
-        (nodes-keep w.nodes (nodes h) a.named-are k _ within (record { month = fits.month; register = λ works-now. absurd (false≢true works-now) }))
+        (nodes-keep w.nodes (nodes h) a.named-are k _ within (record { month = fits.month; register = λ works_now. absurd (false≢true works_now) }))
         (inr (inl (refl, omega arith))) (omega arith)
         (let one = cond-true {A = ℕ} (eqb k k) (r - (named k h).register) 0 (eq-eqb _ _ refl) in
         (omega (arith, one, fits.register working, (a.metered k).0), λ e. absurd (omega arith)))

@@ -33,14 +33,14 @@ use Rattle.agreement.proofs.Posting.{agrees_posted, slip-of}
 module _ (h : List Event) (w : World) (ps : List Paper) (a : Agrees h w ps) (sound : Sound w) (r : Reading) (granted : refusal (reading_entry r w).why ≡ None) where
   agrees_reading : Agrees (clerk (month_posted (read_slip r h) by_power nearest) ∷ h) (reading_entry r w).after ps
   agrees_reading =
-      let granted-later = reading_granted r w granted in
+      let granted_later = reading_granted r w granted in
       let f = reading_fixing r w in
       let n = node_at r.node w in
-      let none = none_hold (fix_why (opened r.node w) r.water (Some r.closing) None w) granted-later.0 in
+      let none = none_hold (fix_why (opened r.node w) r.water (Some r.closing) None w) granted_later.0 in
       let due = and_parts _ _ (not-false _ none.1.1.1.0) in
       let closing : true ≡ works n.meter = same_bool _ _ due.0 in
-      let no-estimate : false ≡ estimate_due n = same_bool _ _ due.1 in
-      let events = ltb-false 0 n.events (or_parts (not (works n.meter)) (ltb 0 n.events) (sym no-estimate)).1 in
+      let no_estimate : false ≡ estimate_due n = same_bool _ _ due.1 in
+      let events = ltb-false 0 n.events (or_parts (not (works n.meter)) (ltb 0 n.events) (sym no_estimate)).1 in
       let carried = (a.metered r.node).1 (omega arith) in
       let register = (a.named-are.each r.node).register (sym closing) in
       let fits : Written w.nodes f (slip-of f) = record {
@@ -56,7 +56,7 @@ module _ (h : List Event) (w : World) (ps : List Paper) (a : Agrees h w ps) (sou
       } in
       let heat : f.heat ≡ r.closing - (named r.node h).register = omega (arith, carried, register) in
       subst (λ k. Agrees (clerk (month_posted (record { node = r.node; heat = k; water = r.water; estimate = 0; closing = Some r.closing }) by_power nearest) ∷ h) (reading_entry r w).after ps) heat
-      (agrees_posted by_power (λ o p a low _. le_trans low (lit≤ tt)) nearest nearest-rounds f h w ps a sound granted-later.1 fits)
+      (agrees_posted by_power (λ o p a low _. le_trans low (lit≤ tt)) nearest nearest-rounds f h w ps a sound granted_later.1 fits)
 
 ends_agrees : (h : List Event) (ps : List Paper) (x : ImportAnswer) (s : Store) (a : ImportAnswer) (s' : Store) (c : Columns) (k : ℕ) (ls : List Text) → x.taken ≡ k → Agrees h s.world ps → Ends x s a s'
     → (k ≤ a.taken) × Agrees (after_readings c (take (a.taken - k) ls) h) s'.world ps

@@ -324,12 +324,12 @@ module _ (key : Key) (light : (o p a : ℕ) → p ≤ most_power → a ≤ most_
   -- all of it
   pub agrees_posted : Agrees (clerk (month_posted (slip-of f) key rule) ∷ h) (post_entry key rule f w).after ps
   agrees_posted =
-      let fits-now = a.named-are.each f.node in
+      let fits_now = a.named-are.each f.node in
       record {
         rows_are = a.rows_are;
         objects-are = a.objects-are;
         named-are = nodes-set w.nodes (nodes h) a.named-are f.node (posted_node f n) (advanced (slip-of f) (named f.node h)) within
-            (record { month = ap (λ m. m + 1) fits-now.month; register = λ working. closing_same f.closing _ _ (fits-now.register working) });
+            (record { month = ap (λ m. m + 1) fits_now.month; register = λ working. closing_same f.closing _ _ (fits_now.register working) });
         metered = set_cases (new_node 0 0) w.nodes (posted_node f n) (λ k m. MeterFits (clerk (month_posted (slip-of f) key rule) ∷ h) k m) f.node within metered_here metered_elsewhere;
         papers-are = papers-move w.nodes ns (omega (arith, length-set w.nodes f.node (posted_node f n))) (moves_set w.nodes f.node (posted_node f n) within (inl (omega arith))) ps (papers h) a.papers-are;
         lines_are = lines-before;

@@ -62,26 +62,26 @@ module _ {K R : Type 0} (weight : K → Key) (meaning : R → Rule) (s₀ : Stat
       → Sofar i answers s → Stepped weight meaning s (get_or calls i d) a s' → Sofar (i + 1) (set answers i a) s'
   one_more light rounds i answers s s' d a low good old next =
       let c = get_or calls i d in
-      let calls-more = take_more calls i d (omega arith) in
-      let answers-more = take_more_set answers i a (omega (arith, old.long)) in
+      let calls_more = take_more calls i d (omega arith) in
+      let answers_more = take_more_set answers i a (omega (arith, old.long)) in
       let level : length (take i answers) ≡ length (take i calls) = length-take-le i answers (omega (arith, old.long)) ∙ sym (length-take-le i calls (omega arith)) in
-      let is-sound = parts s.store.world good in
+      let is_sound = parts s.store.world good in
       record {
         within = omega arith;
         long = length-set answers i a ∙ old.long;
-        ran = subst (λ cs. Ran weight meaning s₀ cs (take (i + 1) (set answers i a)) s') (sym calls-more)
-            (subst (λ rs. Ran weight meaning s₀ (take i calls ++ c ∷ []) rs s') (sym answers-more) (ran-push weight meaning s₀ (take i calls) (take i answers) s c a s' old.ran next));
+        ran = subst (λ cs. Ran weight meaning s₀ cs (take (i + 1) (set answers i a)) s') (sym calls_more)
+            (subst (λ rs. Ran weight meaning s₀ (take i calls ++ c ∷ []) rs s') (sym answers_more) (ran-push weight meaning s₀ (take i calls) (take i answers) s c a s' old.ran next));
         rest = drop-set-lt (i + 1) answers i a (omega arith) ∙ further i answers old.rest;
         agrees = λ new none.
-            subst (λ cs. Agrees (history weight meaning cs (take (i + 1) (set answers i a))) s'.store.world s'.papers) (sym calls-more)
-            (subst (λ rs. Agrees (history weight meaning (take i calls ++ c ∷ []) rs) s'.store.world s'.papers) (sym answers-more)
+            subst (λ cs. Agrees (history weight meaning cs (take (i + 1) (set answers i a))) s'.store.world s'.papers) (sym calls_more)
+            (subst (λ rs. Agrees (history weight meaning (take i calls ++ c ∷ []) rs) s'.store.world s'.papers) (sym answers_more)
             (subst (λ h. Agrees h s'.store.world s'.papers) (sym (history-push weight meaning [] (take i calls) (take i answers) c a level))
-            (step weight meaning light rounds (history weight meaning (take i calls) (take i answers)) s s' (old.agrees new none) a is-sound c next)));
+            (step weight meaning light rounds (history weight meaning (take i calls) (take i answers)) s s' (old.agrees new none) a is_sound c next)));
         memory = λ ample room.
             let was = old.memory ample room in
             let left : made calls before - i ≡ made calls before - (i + 1) + 1 = omega arith in
-            let now = spared weight meaning (made calls before - (i + 1)) s s' a (subst (λ n. Spare n s) left was.0) c is-sound next in
-            (now.0, subst (AllByRecursion (λ x. number_told x ≡ number Memory → ⊥)) (sym answers-more) (All-push _ (take i answers) a was.1 now.1));
+            let now = spared weight meaning (made calls before - (i + 1)) s s' a (subst (λ n. Spare n s) left was.0) c is_sound next in
+            (now.0, subst (AllByRecursion (λ x. number_told x ≡ number Memory → ⊥)) (sym answers_more) (All-push _ (take i answers) a was.1 now.1));
       }
 
   pub all_made : (i : ℕ) (answers : List Answer) (s : State) → made calls before ≤ i → sound s.store.world ≡ true → Sofar i answers s → Agreement weight meaning s₀ calls before answers s

@@ -38,7 +38,7 @@ module _ (counts : List ℕ) (objects : List Object) (i : ℕ) (within : i < len
       → Counted (set counts (get_or objects i no_object).node (count + 1)) objects (i + 1)
   counted_more count is room = (
     length-set counts (get_or objects i no_object).node (count + 1) ∙ so_far.0,
-    λ n n-low.
+    λ n n_low.
         let node = (get_or objects i no_object).node in
         ⊎_elim
         (λ (same : n ≡ node).
@@ -50,7 +50,7 @@ module _ (counts : List ℕ) (objects : List Object) (i : ℕ) (within : i < len
         (λ (other : n ≡ node → ⊥).
         let told = get_or-set_other counts node n (count + 1) 0 other in
         let stays = count_by_more_no (λ o. eqb o.node n) objects i no_object within (ne_eqb _ _ (λ e. other (sym e))) in
-        let before = so_far.1 n n-low in
+        let before = so_far.1 n n_low in
         (omega (arith, told, before.0, stays), omega (arith, told, before.1)))
         (cases_eq n node),
   )

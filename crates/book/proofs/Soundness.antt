@@ -24,7 +24,7 @@ chained true true true l u = refl
 -- what `sound` tests, one after the other
 pub sound-is : (w : World) (a b c d : Bool) → a ≡ counts_good w → b ≡ rows_good w.rows → c ≡ records_good w → d ≡ uncrowded w.objects → (a && (b && (c && d))) ≡ sound w
 unfolding sound
-sound-is w a b c d a-is b-is c-is d-is = rw (a-is, b-is, c-is, d-is)
+sound-is w a b c d a_is b_is c_is d_is = rw (a_is, b_is, c_is, d_is)
     (ap (λ z. counts_good w && (rows_good w.rows && z))
     (chained (list_all recipient_good w.recipients) (list_all node_good w.nodes) (list_all (object_good (in_use w)) w.objects) (list_all (line_good (in_use w)) w.lines) (uncrowded w.objects)))
 

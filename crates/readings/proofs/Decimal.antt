@@ -5,7 +5,7 @@ use Rattle.std.proofs.lemmas.Fmt.{decimal-digits_value, decimal_nonempty, digits
 use Rattle.std.proofs.lemmas.Str.Parse.{IsNumeralModel, numerals_by_fold, tells_all_ascii_digits}
 use Rattle.std.proofs.lemmas.Bool.{and_left, and_parts, and_right, cases_lt, cond-true, eq-eqb, le-ltb, leb-true, ltb-false, ne_eqb, not-true}
 use Rattle.readings.specs.Formats.{is_value, number_of, value_of}
-use Rattle.readings.specs.Laws.{Values-decimal}
+use Rattle.readings.specs.Laws.{ValuesDecimal}
 use Rattle.readings.proofs.Saying.{good}
 use Rattle.readings.proofs.Values.{valued}
 
@@ -35,7 +35,7 @@ written : (n : ℕ) → n ≤ 1_000_000_000_000 → is_value (decimal n) ≡ tru
 written n low =
     valued (decimal n) (decimal_nonempty n (omega arith)) (length-decimal-le 13 n (omega arith) (omega arith) (omega arith)) (digits_decimal own n (omega arith)) (unpadded n low) (omega (arith, digits_value-decimal own n (omega arith)))
 
-pub values_decimal : Values-decimal
+pub values_decimal : ValuesDecimal
 values_decimal f n = (reads, writes)
   where
     reads : value_of f ≡ Ok n → (f.bytes ≡ decimal n) × (n ≤ 1_000_000_000_000)

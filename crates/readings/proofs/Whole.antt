@@ -2,7 +2,7 @@
 use Rattle.std.proofs.Common.{◌≡◌, ℕ, ◌+◌, ◌<◌, Bool, true, false, cond, eqb, List, [], ◌∷◌, ◌++◌, length, sym, refl, ap, ◌∙◌, subst, arith}
 use Rattle.std.proofs.lemmas.Bool.{eqb-true}
 use Rattle.readings.specs.Texts.{Text, led, lines_from, fields_from}
-use Rattle.readings.specs.Laws.{Cut, Follow, Lines-whole, Fields-whole, closed}
+use Rattle.readings.specs.Laws.{Cut, Follow, LinesWhole, FieldsWhole, closed}
 use Rattle.readings.proofs.Cutting.{fields_some, lines-some}
 
 -- one more byte in front: of the first text, or the end of an empty one
@@ -43,8 +43,8 @@ lines_cut at [] = record { follow = tt; lack = tt; whole = refl }
 lines_cut at (c ∷ []) = last_line at c (eqb c 10) refl
 lines_cut at (c ∷ d ∷ cs) = either 10 at c (closed (d ∷ cs)) (lines_from (at + 1) (d ∷ cs)) (lines-some (at + 1) d cs) (eqb c 10) refl (lines_cut (at + 1) (d ∷ cs))
 
-pub lines-whole : Lines-whole
+pub lines-whole : LinesWhole
 lines-whole file = lines_cut 0 file
 
-pub fields_whole : Fields-whole
+pub fields_whole : FieldsWhole
 fields_whole l = fields_cut l.place l.bytes

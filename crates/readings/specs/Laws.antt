@@ -31,13 +31,13 @@ closed (c ∷ []) = cond (c == 10) (c ∷ []) (c ∷ 10 ∷ [])
 closed (c ∷ d ∷ cs) = c ∷ closed (d ∷ cs)
 
 -- a file is its lines, each with LF after it
-abbrev pub Lines-whole : Type 0
-Lines-whole = (file : List ℕ) → Cut 10 0 (closed file) (lines_from 0 file)
+abbrev pub LinesWhole : Type 0
+LinesWhole = (file : List ℕ) → Cut 10 0 (closed file) (lines_from 0 file)
 
 -- a line is its fields, with ";" after each but the last
-abbrev pub Fields-whole : Type 0
-Fields-whole = (l : Text) → Cut 59 l.place (l.bytes ++ 59 ∷ []) (fields_of l)
+abbrev pub FieldsWhole : Type 0
+FieldsWhole = (l : Text) → Cut 59 l.place (l.bytes ++ 59 ∷ []) (fields_of l)
 
 -- a field is a value where it is a number up to 10^12 as the listing writes it
-abbrev pub Values-decimal : Type 0
-Values-decimal = (f : Text) (n : ℕ) → (value_of f ≡ Ok n → (f.bytes ≡ decimal n) × (n ≤ 1_000_000_000_000)) × (f.bytes ≡ decimal n → n ≤ 1_000_000_000_000 → value_of f ≡ Ok n)
+abbrev pub ValuesDecimal : Type 0
+ValuesDecimal = (f : Text) (n : ℕ) → (value_of f ≡ Ok n → (f.bytes ≡ decimal n) × (n ≤ 1_000_000_000_000)) × (f.bytes ≡ decimal n → n ≤ 1_000_000_000_000 → value_of f ≡ Ok n)

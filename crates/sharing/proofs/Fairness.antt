@@ -40,16 +40,16 @@ module _ (f : Rule) (laws : Rounds f) (d : ℕ) (pos : 1 ≤ d) (low : d ≤ mos
       let under : q * d ≤ n = div-mul-le_self n d in
       let over : n < q * d + d = lt-div-mul-add pos in
       let next : (q + 1) * d ≡ q * d + d = omega (arith, add-mul q 1 d) in
-      let at-q : f (q * d) d ≡ q = laws.exact q d pos low (omega arith) in
+      let at_q : f (q * d) d ≡ q = laws.exact q d pos low (omega arith) in
       let at_next : f ((q + 1) * d) d ≡ q + 1 = laws.exact (q + 1) d pos low (omega arith) in
-      let least : q ≤ f n d = omega (arith, at-q, laws.monotone (q * d) n d pos low under (omega arith)) in
+      let least : q ≤ f n d = omega (arith, at_q, laws.monotone (q * d) n d pos low under (omega arith)) in
       let most : f n d ≤ q + 1 = omega (arith, at_next, laws.monotone n ((q + 1) * d) d pos low (omega arith) (omega arith)) in
       let a : q * d ≤ f n d * d = mul-le-mul_right d least in
       let b : f n d * d ≤ (q + 1) * d = mul-le-mul_right d most in (
         omega arith,
         ⊎_elim
             (λ (h : q * d < n). omega (arith, b, next))
-            (λ (h : n ≤ q * d). let same : n ≡ q * d = omega arith in omega (arith, ap (λ k. k * d) (ap (λ k. f k d) same ∙ at-q)))
+            (λ (h : n ≤ q * d). let same : n ≡ q * d = omega arith in omega (arith, ap (λ k. k * d) (ap (λ k. f k d) same ∙ at_q)))
             (cases_lt (q * d) n),
       )
 

@@ -8,7 +8,7 @@ use Rattle.sharing.specs.declared.refusal.Refusal.{Refusal}
 use Rattle.sharing.proofs.Passing.{all_from_pass}
 use Rattle.sharing.proofs.Picked.{none_hold}
 use Rattle.tariff.specs.Charges.{Charge, Power, Fixed, Energy, Variable, Carrier, five, most_price}
-use Rattle.tariff.specs.Rows.{Row, Plain, Mixed, Mix, Prices, price_in, price_over, depth_over, price, depth, most_depth, prices_within, row_why, keeps_rules, mixed_price, worked_out, no_row, rows_good_above, rows_good, whole, Price-law}
+use Rattle.tariff.specs.Rows.{Row, Plain, Mixed, Mix, Prices, price_in, price_over, depth_over, price, depth, most_depth, prices_within, row_why, keeps_rules, mixed_price, worked_out, no_row, rows_good_above, rows_good, whole, PriceLaw}
 use Rattle.tariff.proofs.WorkedOut.{worked_out-below, worked_out-at}
 
 none_is : (o : Option Refusal) → not (is_some o) ≡ true → o ≡ None
@@ -136,10 +136,10 @@ module _ (rows : List Row) (good : rows_good rows ≡ true) (i : ℕ) (within : 
 
 -- the mix of two prices before its thousandths are divided out
 pub mix_low : (a x b y : ℕ) → a + b ≡ whole → x ≤ most_price Power → y ≤ most_price Power → a * x + b * y ≤ whole * most_price Power
-mix_low a x b y thousand x-low y-low =
-    omega (arith, mul-le-mul_left a x-low, mul-le-mul_left b y-low)
+mix_low a x b y thousand x_low y_low =
+    omega (arith, mul-le-mul_left a x_low, mul-le-mul_left b y_low)
 
-pub price-law : (rows : List Row) → rows_good rows ≡ true → Price-law rows
+pub price-law : (rows : List Row) → rows_good rows ≡ true → PriceLaw rows
 price-law rows good = record {
   mixes = λ c i within. price-is rows good i within c no_row;
   within = λ c i within. price-within rows good i within c;
@@ -148,7 +148,7 @@ price-law rows good = record {
 
 -- what is mixed from the prices of two rows and the addend, and that these are low enough to be mixed
 module _ (c : Charge) (rows : List Row) (good : rows_good rows ≡ true) (m : Mix) (a_low : m.a.row < length rows) (b_low : m.b.row < length rows)
-    (addend : prices_within m.addend ≡ true) (x y z : ℕ) (x-is : x ≡ price c rows m.a.row) (y-is : y ≡ price c rows m.b.row) (z-is : z ≡ price_in c m.addend) where
+    (addend : prices_within m.addend ≡ true) (x y z : ℕ) (x_is : x ≡ price c rows m.a.row) (y_is : y ≡ price c rows m.b.row) (z_is : z ≡ price_in c m.addend) where
   pub parts_low : (x ≤ most_price Power) × ((y ≤ most_price Power) × (z ≤ most_price Power))
   parts_low =
       let most = most_low c in
@@ -159,9 +159,9 @@ module _ (c : Charge) (rows : List Row) (good : rows_good rows ≡ true) (m : Mi
       let a = m.a.thousandths in
       let b = m.b.thousandths in
       is
-      ∙ ap (λ n. mixed_price a n b y z) x-is
-      ∙ ap (λ n. mixed_price a (price c rows m.a.row) b n z) y-is
-      ∙ ap (λ n. mixed_price a (price c rows m.a.row) b (price c rows m.b.row) n) z-is
+      ∙ ap (λ n. mixed_price a n b y z) x_is
+      ∙ ap (λ n. mixed_price a (price c rows m.a.row) b n z) y_is
+      ∙ ap (λ n. mixed_price a (price c rows m.a.row) b (price c rows m.b.row) n) z_is
 
 -- one row more
 good_push : (below rows : List Row) (r : Row) → rows_good_above below (rows ++ r ∷ []) ≡ (rows_good_above below rows && keeps_rules (below ++ rows) r)

@@ -1,7 +1,7 @@
 // What rows that keep the rules are asked.
 ghost use Rattle.std.specs.Prelude.{◌≡◌};
 ghost use Rattle.sharing.specs.Refusals.{decided};
-ghost use Rattle.tariff.specs.Rows.{Price-law, price, price_why, row_why, rows_good};
+ghost use Rattle.tariff.specs.Rows.{PriceLaw, price, price_why, row_why, rows_good};
 
 use crate::charge::Charge;
 use crate::check::row_refusal;
@@ -26,7 +26,7 @@ impl<'a> Rows<'a> {
     // The price of a row that a charge goes by.
     pub fn price(&self, row: usize, charge: Charge) -> Result<u64, Refusal>
         ensures value { result ≡ decided (price_why self.now.rows.now row) (price charge self.now.rows.now row) }
-        ensures law { Price-law self.now.rows.now }
+        ensures law { PriceLaw self.now.rows.now }
     {
         if row >= self.rows.len() {
             return Err(Refusal::Unknown);
