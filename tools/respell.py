@@ -453,7 +453,6 @@ os-are os_are
 os'-are os'_are
 d-is d_is
 amounts-are amounts_are
-count-is count_is
 answers-more answers_more
 xs-are xs_are
 x-low x_low
@@ -480,13 +479,9 @@ x-is x_is
 y-is y_is
 z-is z_is
 y-some y_some
-sum-is sum_is
-days-is days_is
-self-is self_is
 early-told early_told
 n-is n_is
 ls-are ls_are
-held-is held_is
 Price-law PriceLaw
 Lines-whole LinesWhole
 Fields-whole FieldsWhole

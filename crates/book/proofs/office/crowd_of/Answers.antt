@@ -19,10 +19,10 @@ loop-object-preserved c =
     elim c.if-object-node.branch [
       | then-object-node w ↦
           let more = count_by_more_yes behind c.args.objects.now c.loop-object.object-index no_object c.loop-object-test.true (eq-eqb _ _ w.if-object-node.true) in
-          omega (arith, w.count_is, more)
+          omega (arith, w.count-is, more)
       | else-object-node w ↦
           let more = count_by_more_no behind c.args.objects.now c.loop-object.object-index no_object c.loop-object-test.true (ne_eqb _ _ w.if-object-node.false) in
-          omega (arith, w.count_is, more)
+          omega (arith, w.count-is, more)
     ]
 
 pub returns : goal.returns

@@ -27,9 +27,9 @@ loop-line-preserved c =
     elim c.match-branch-2.branch [
       | in-Some w ↦
           let bounded = accepted_bounded _ _ w.in-Some.tenths c.in_ok-tenths.ensures w.in-Some.is in
-          one_day ls i _ _ c.loop-line.invariant _ _ w.in-Some.tenths _ _ c.loop-line-test.true c.in_ok-tenths.ensures w.in-Some.is (omega (arith, ints, w.sum_is)) w.days_is
+          one_day ls i _ _ c.loop-line.invariant _ _ w.in-Some.tenths _ _ c.loop-line-test.true c.in_ok-tenths.ensures w.in-Some.is (omega (arith, ints, w.sum-is)) w.days-is
       | in_default w ↦
-          no_more ls i _ _ c.loop-line.invariant _ _ _ _ c.loop-line-test.true c.in_ok-tenths.ensures w.in_default.is w.sum_is w.days_is
+          no_more ls i _ _ c.loop-line.invariant _ _ _ _ c.loop-line-test.true c.in_ok-tenths.ensures w.in_default.is w.sum-is w.days-is
     ]
 
 pub returns-then-days-eq0 : goal.returns-then-days-eq0

@@ -13,9 +13,9 @@ pub returns : goal.returns
 returns c =
     elim c.if-length-rest.branch [
       | then-length-rest w ↦
-          let next = line_ends c.args.self.now.file.now c.args.self.now.from c.if-self.false c.before-length.ensures.value c.if-length-rest.self w.self_is in
+          let next = line_ends c.args.self.now.file.now c.args.self.now.from c.if-self.false c.before-length.ensures.value c.if-length-rest.self w.self-is in
           record { line = sym (ap first next); rest = sym (ap (drop 1) next) }
       | else-length-rest w ↦
-          let next = line_open c.args.self.now.file.now c.args.self.now.from c.if-self.false c.before-length.ensures.value c.if-length-rest.self w.self_is (omega arith) in
+          let next = line_open c.args.self.now.file.now c.args.self.now.from c.if-self.false c.before-length.ensures.value c.if-length-rest.self w.self-is (omega arith) in
           record { line = sym (ap first next); rest = sym (ap (drop 1) next) }
     ]
