@@ -2,7 +2,7 @@
 """Respells the repository's own definitions and lemmas: words in snake case, a dash only between a lemma's names.
 
 Run once at the top of the repository, after the toolchain's own port.py. It touches antt files, the clauses of .rt
-files (no strings, no comments), must-fail edits, and code spans of README.md and docs/.
+files (no strings, no comments), must-fail edits, and code spans of README.md and docs/ but for docs/PORT.md.
 """
 import os
 import re
@@ -131,7 +131,8 @@ fault-rises fault_rises
 few-megajoules few_megajoules
 few-step few_step
 field-first field_first
-field-first-of field_first-of
+field-first-of field_first_of
+field_first-of field_first_of
 field-uncut field_uncut
 field-whole field_whole
 fields-cut fields_cut
@@ -200,7 +201,8 @@ line-charges line_charges
 line-charges-of line_charges-of
 line-ends line_ends
 line-fault line_fault
-line-first-of line_first-of
+line-first-of line_first_of
+line_first-of line_first_of
 line-good line_good
 line-heats line_heats
 line-objects line_objects
@@ -486,6 +488,16 @@ Price-law PriceLaw
 Lines-whole LinesWhole
 Fields-whole FieldsWhole
 Values-decimal ValuesDecimal
+bases-upto bases_upto
+behind-upto behind_upto
+heat-parts heat_parts
+heat-why heat_why
+month-used month_used
+price-a price_a
+price-b price_b
+rise-why rise_why
+slip-of slip_of
+water-parts water_parts
 """.strip().splitlines())
 
 TOKEN = re.compile(r"[^\s(){}\[\].;,:`\"]+")
@@ -510,7 +522,7 @@ def main():
         paths = [top] if os.path.isfile(top) else [os.path.join(d, f) for d, _, fs in os.walk(top) for f in fs]
         for path in paths:
             turn = {".antt": respelled, ".rt": rattle, ".edit": respelled, ".md": page}.get(os.path.splitext(path)[1])
-            if turn is None or "/out/" in path:
+            if turn is None or "/out/" in path or path == "docs/PORT.md":
                 continue
             with open(path, encoding="utf-8") as f:
                 old = f.read()

@@ -28,7 +28,7 @@ use Rattle.agreement.specs.Runs.{Paper}
 use Rattle.agreement.proofs.Balances.{balance_in}
 use Rattle.agreement.proofs.Lists.{map_same}
 use Rattle.agreement.proofs.MonthLines.{counting_low}
-use Rattle.agreement.proofs.Months.{Fit, MonthStands, charge_agrees, heat-agrees, month-used, water-agrees}
+use Rattle.agreement.proofs.Months.{Fit, MonthStands, charge_agrees, heat-agrees, month_used, water-agrees}
 use Rattle.agreement.proofs.Nodes.{NodesFit, nodes-keep, nodes-push, nodes-set}
 use Rattle.agreement.proofs.Papers.{Moves, PapersFit, moves_push, moves_set, node_in, papers-move}
 use Rattle.agreement.proofs.Places.{push_cases, set_cases}
@@ -91,7 +91,7 @@ charged-stays : (rs : List Row) (r : Row) (c : Charge) (us : List Use) → AllBy
 charged-stays rs r c us known =
     ap (cut (λ n. nearest n (divisor c))) (map_same _ _ us (All-weaker _ _ (λ u low. ap (λ p. quantity c u * p) (price-stays rs r c u.row low)) us known))
 
-used_known : (rs : List Row) (x : Month) → Fit rs x → AllByRecursion (λ u. u.row < length rs) (month-used x)
+used_known : (rs : List Row) (x : Month) → Fit rs x → AllByRecursion (λ u. u.row < length rs) (month_used x)
 used_known rs x fit =
     All-map _ _ (range_with_len 0 (length x.shares))
     (All-weaker _ _ (λ i within. (All-get_or (λ s. (s.row < length rs) × (s.kw ≤ most_power)) x.shares i no_share within fit.known).0)
@@ -110,7 +110,7 @@ month-with_row rs r lines ns x f =
       stands = record {
         heat = f.stands.heat;
         water = f.stands.water;
-        charge = λ c. f.stands.charge c ∙ ap (map pos) (sym (charged-stays rs r c (month-used x) (used_known rs x f.fit)));
+        charge = λ c. f.stands.charge c ∙ ap (map pos) (sym (charged-stays rs r c (month_used x) (used_known rs x f.fit)));
       };
       before = f.before;
     }

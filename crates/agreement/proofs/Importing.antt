@@ -27,7 +27,7 @@ use Rattle.agreement.proofs.Agrees.{Agrees}
 use Rattle.agreement.proofs.Fixing.{same_bool}
 use Rattle.agreement.proofs.Months.{nearest-rounds}
 use Rattle.agreement.proofs.Papers.{Written}
-use Rattle.agreement.proofs.Posting.{agrees_posted, slip-of}
+use Rattle.agreement.proofs.Posting.{agrees_posted, slip_of}
 
 -- one line
 module _ (h : List Event) (w : World) (ps : List Paper) (a : Agrees h w ps) (sound : Sound w) (r : Reading) (granted : refusal (reading_entry r w).why ≡ None) where
@@ -43,7 +43,7 @@ module _ (h : List Event) (w : World) (ps : List Paper) (a : Agrees h w ps) (sou
       let events = ltb-false 0 n.events (or_parts (not (works n.meter)) (ltb 0 n.events) (sym no_estimate)).1 in
       let carried = (a.metered r.node).1 (omega arith) in
       let register = (a.named-are.each r.node).register (sym closing) in
-      let fits : Written w.nodes f (slip-of f) = record {
+      let fits : Written w.nodes f (slip_of f) = record {
         node = refl;
         heat = refl;
         water = refl;

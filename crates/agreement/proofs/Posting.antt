@@ -92,8 +92,8 @@ found_low None low = omega arith
 found_low (Some n) low = low
 
 -- what stands on a fixed paper
-abbrev pub slip-of : Fixing → Slip
-slip-of f = record { node = f.node; heat = f.heat; water = f.water; estimate = f.estimate; closing = f.closing }
+abbrev pub slip_of : Fixing → Slip
+slip_of f = record { node = f.node; heat = f.heat; water = f.water; estimate = f.estimate; closing = f.closing }
 
 rises-same : (closing : Option ℕ) (a b : ℕ) → (is_some closing ≡ true → a ≡ b) → unwrap_or (option_map (λ c. c - a) closing) 0 ≡ unwrap_or (option_map (λ c. c - b) closing) 0
 rises-same None a b same = refl
@@ -104,7 +104,7 @@ closing_same closing a b same = ap (unwrap_or closing) same
 
 module _ (key : Key) (light : (o p a : ℕ) → p ≤ most_power → a ≤ most_area → IfSome (key o p a) (λ w. w ≤ most_quantity)) (rule : Rule) (rounds : Rounds rule) (f : Fixing)
     (h : List Event) (w : World) (ps : List Paper) (a : Agrees h w ps) (sound : Sound w) (granted : refusal (post_entry key rule f w).why ≡ None)
-    (fits : Written w.nodes f (slip-of f)) where
+    (fits : Written w.nodes f (slip_of f)) where
   abbrev n : Node
   n = node_in w.nodes f.node
 
@@ -112,7 +112,7 @@ module _ (key : Key) (light : (o p a : ℕ) → p ≤ most_power → a ≤ most_
   lines = month_lines key rule f w
 
   abbrev x : Month
-  x = posting (slip-of f) key rule h
+  x = posting (slip_of f) key rule h
 
   abbrev ns : List Node
   ns = set w.nodes f.node (posted_node f n)
@@ -309,28 +309,28 @@ module _ (key : Key) (light : (o p a : ℕ) → p ≤ most_power → a ≤ most_
   rise-is : x.rise ≡ rise_to n f.closing
   rise-is = rises-same f.closing (named f.node h).register n.register (λ some. sym ((a.named-are.each f.node).register (sym current.closing ∙ some)))
 
-  metered_here : MeterFits (clerk (month_posted (slip-of f) key rule) ∷ h) f.node (posted_node f n)
+  metered_here : MeterFits (clerk (month_posted (slip_of f) key rule) ∷ h) f.node (posted_node f n)
   metered_here =
-      let mine : (g : Month → ℕ) → over_months g f.node (clerk (month_posted (slip-of f) key rule) ∷ h) ≡ over_months g f.node h + g x = λ g.
+      let mine : (g : Month → ℕ) → over_months g f.node (clerk (month_posted (slip_of f) key rule) ∷ h) ≡ over_months g f.node h + g x = λ g.
       sum_by_push (λ y. cond (eqb y.node f.node) (g y) 0) (months h) x ∙ ap (λ k. over_months g f.node h + k) (cond-true {A = ℕ} (eqb f.node f.node) (g x) 0 (eq-eqb _ _ refl)) in
       (omega (arith, mine (λ y. y.slip.heat), mine (λ y. y.rise), mine (λ y. y.slip.estimate), (a.metered f.node).0, current.heat, rise-is), λ _. refl)
 
-  metered_elsewhere : (k : ℕ) → (k ≡ f.node → ⊥) → MeterFits (clerk (month_posted (slip-of f) key rule) ∷ h) k (node_in w.nodes k)
+  metered_elsewhere : (k : ℕ) → (k ≡ f.node → ⊥) → MeterFits (clerk (month_posted (slip_of f) key rule) ∷ h) k (node_in w.nodes k)
   metered_elsewhere k other =
-      let same : (g : Month → ℕ) → over_months g k (clerk (month_posted (slip-of f) key rule) ∷ h) ≡ over_months g k h + 0 = λ g.
+      let same : (g : Month → ℕ) → over_months g k (clerk (month_posted (slip_of f) key rule) ∷ h) ≡ over_months g k h + 0 = λ g.
       sum_by_push (λ y. cond (eqb y.node k) (g y) 0) (months h) x ∙ ap (λ i. over_months g k h + i) (cond-false {A = ℕ} (eqb f.node k) (g x) 0 (ne_eqb _ _ (λ e. other (sym e)))) in
       (omega (arith, same (λ y. y.slip.heat), same (λ y. y.rise), same (λ y. y.slip.estimate), (a.metered k).0), (a.metered k).1)
 
   -- all of it
-  pub agrees_posted : Agrees (clerk (month_posted (slip-of f) key rule) ∷ h) (post_entry key rule f w).after ps
+  pub agrees_posted : Agrees (clerk (month_posted (slip_of f) key rule) ∷ h) (post_entry key rule f w).after ps
   agrees_posted =
       let fits_now = a.named-are.each f.node in
       record {
         rows_are = a.rows_are;
         objects-are = a.objects-are;
-        named-are = nodes-set w.nodes (nodes h) a.named-are f.node (posted_node f n) (advanced (slip-of f) (named f.node h)) within
+        named-are = nodes-set w.nodes (nodes h) a.named-are f.node (posted_node f n) (advanced (slip_of f) (named f.node h)) within
             (record { month = ap (λ m. m + 1) fits_now.month; register = λ working. closing_same f.closing _ _ (fits_now.register working) });
-        metered = set_cases (new_node 0 0) w.nodes (posted_node f n) (λ k m. MeterFits (clerk (month_posted (slip-of f) key rule) ∷ h) k m) f.node within metered_here metered_elsewhere;
+        metered = set_cases (new_node 0 0) w.nodes (posted_node f n) (λ k m. MeterFits (clerk (month_posted (slip_of f) key rule) ∷ h) k m) f.node within metered_here metered_elsewhere;
         papers-are = papers-move w.nodes ns (omega (arith, length-set w.nodes f.node (posted_node f n))) (moves_set w.nodes f.node (posted_node f n) within (inl (omega arith))) ps (papers h) a.papers-are;
         lines_are = lines-before;
         months-are = All-push _ (months h) x (All-weaker _ _ month-stays (months h) a.months-are)
@@ -358,7 +358,7 @@ pub agrees_post : (key : Key) → ((o p a : ℕ) → p ≤ most_power → a ≤ 
 agrees_post key light rule rounds f h w ps a sound granted i at =
     let s = get_or (papers h) i (blank 0) in
     let fits : Written w.nodes f s = subst (λ p. PaperFits w.nodes p s) at (a.papers-are.each i) in
-    let same : slip-of f ≡ s = λ j. record { node = fits.node j; heat = fits.heat j; water = fits.water j; estimate = fits.estimate j; closing = fits.closing j } in
+    let same : slip_of f ≡ s = λ j. record { node = fits.node j; heat = fits.heat j; water = fits.water j; estimate = fits.estimate j; closing = fits.closing j } in
     let low : i < length ps = ⊎_elim (λ low. low) (λ past. absurd (no_such f (sym (get_or_past ps i posted_paper past) ∙ at))) (cases_lt i (length ps)) in
     subst (λ z. Agrees (clerk (month_posted z key rule) ∷ h) (post_entry key rule f w).after (set ps i posted_paper)) same
     (agrees_spent _ _ ps (agrees_posted key light rule rounds f h w ps a sound granted (subst (Written w.nodes f) (sym same) fits)) i low)

@@ -1,5 +1,5 @@
 #![tactic(auto)]
-// A list of calls, its run from a new book, and the law that meter and accounts agree.
+// A list of calls, its run, and the law that meter and accounts agree.
 pub mod call;
 pub mod desk;
 pub mod run;

@@ -6,7 +6,7 @@ use Rattle.sharing.specs.declared.refusal.Refusal.TheVariants.{Memory}
 use Rattle.book.specs.Limits.{most_rows, most_recipients, most_nodes, most_objects_in_all, most_lines}
 use Rattle.book.specs.World.{Places, Store, World}
 
--- a call at a world: every condition to refuse it, in the order of the numbers, and what it answers and leaves where none holds
+-- a call at a world: every condition to refuse it, in the order in which they are looked at, and what it answers and leaves where none holds
 pub record Call (A : Type 0) : Type 0 where
   pub why : List (Bool × Refusal)
   pub answer : A

@@ -51,7 +51,7 @@ impl Book {
         }
     }
 
-    // Gets memory for every place granted, so that no later call wants any.
+    // Gets memory for every place granted, so that no later call wants any for the tables.
     pub fn reserve(&mut self) -> Result<(), Refusal>
         ensures { Provided (store self.old.tables) (store self.new.tables) result }
     {

@@ -1,5 +1,5 @@
 #![tactic(auto)]
-// The settlement book of one heat company: its tables, and when they are sound.
+// The settlement book of one heat company: its tables, when they are sound, and the calls of the office and the meter staff.
 pub mod book;
 #[cfg(test)]
 mod call_tests;

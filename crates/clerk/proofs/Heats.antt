@@ -41,22 +41,22 @@ inside water closing estimate e =
     record { water-low = ltb-false _ _ first.0; closing-low = rest.0; estimate-in = rest.1 }
 
 -- why an estimate within its limits is refused
-abbrev pub heat-why : Option Estimate → List (Bool × Refusal)
-heat-why o = (given estimate_warm o, NotColder) ∷ (given (λ e. ltb most_quantity (estimated e)) o, TooMuchHeat) ∷ []
+abbrev pub heat_why : Option Estimate → List (Bool × Refusal)
+heat_why o = (given estimate_warm o, NotColder) ∷ (given (λ e. ltb most_quantity (estimated e)) o, TooMuchHeat) ∷ []
 
 pub heat-refused : (o : Option Estimate) (e : Estimate) (f : Refusal) → o ≡ Some e → given estimate_outside o ≡ false
-    → Err f ≡ decided (estimate_why e) (megajoules (estimated e)) → Err f ≡ decided (heat-why o) (estimate_heat o)
+    → Err f ≡ decided (estimate_why e) (megajoules (estimated e)) → Err f ≡ decided (heat_why o) (estimate_heat o)
 heat-refused o e f is within told =
-    let P : Option Estimate → Type 0 = λ x. given estimate_outside x ≡ false → Err f ≡ decided (heat-why x) (estimate_heat x) in
-    subst P (sym is) (λ inside. refused (heat-why (Some e)) f (estimated e) (sym (cond-false _ _ _ inside) ∙ refusal_is (estimate_why e) f _ told)) within
+    let P : Option Estimate → Type 0 = λ x. given estimate_outside x ≡ false → Err f ≡ decided (heat_why x) (estimate_heat x) in
+    subst P (sym is) (λ inside. refused (heat_why (Some e)) f (estimated e) (sym (cond-false _ _ _ inside) ∙ refusal_is (estimate_why e) f _ told)) within
 
 -- an estimate that is not refused is small
 estimate-low : (o : Option Estimate) → given (λ e. ltb most_quantity (estimated e)) o ≡ false → estimate_heat o ≤ most_quantity
 estimate-low (Some e) low = ltb-false _ _ low
 estimate-low None low = omega arith
 
-pub heat-low : (o : Option Estimate) (h : ℕ) → Ok h ≡ decided (heat-why o) (estimate_heat o) → h ≤ most_quantity
-heat-low o h told = let given = granted (heat-why o) h _ told in omega (arith, given.1, estimate-low o (none_hold (heat-why o) given.0).1.0)
+pub heat-low : (o : Option Estimate) (h : ℕ) → Ok h ≡ decided (heat_why o) (estimate_heat o) → h ≤ most_quantity
+heat-low o h told = let given = granted (heat_why o) h _ told in omega (arith, given.1, estimate-low o (none_hold (heat_why o) given.0).1.0)
 
 -- a rise to a register within its limit is small
 rises-low : (n : Node) (closing : Option ℕ) → given (λ r. ltb most_register r) closing ≡ false → rise_to n closing ≤ most_register
@@ -64,11 +64,11 @@ rises-low n (Some r) low = omega (arith, ltb-false _ _ low)
 rises-low n None low = omega arith
 
 -- why a closing register is refused
-abbrev pub rise-why : Node → Option ℕ → List (Bool × Refusal)
-rise-why n closing = (given (λ r. ltb r n.register) closing, RegisterFalls) ∷ []
+abbrev pub rise_why : Node → Option ℕ → List (Bool × Refusal)
+rise_why n closing = (given (λ r. ltb r n.register) closing, RegisterFalls) ∷ []
 
-pub rise-low : (n : Node) (closing : Option ℕ) (r : ℕ) → given (λ r. ltb most_register r) closing ≡ false → Ok r ≡ decided (rise-why n closing) (rise_to n closing) → r ≤ most_register
-rise-low n closing r low told = omega (arith, (granted (rise-why n closing) r (rise_to n closing) told).1, rises-low n closing low)
+pub rise-low : (n : Node) (closing : Option ℕ) (r : ℕ) → given (λ r. ltb most_register r) closing ≡ false → Ok r ≡ decided (rise_why n closing) (rise_to n closing) → r ≤ most_register
+rise-low n closing r low told = omega (arith, (granted (rise_why n closing) r (rise_to n closing) told).1, rises-low n closing low)
 
 -- a sound node carries little
 pub carried_low : (n : Node) → node_good n ≡ true → n.carried ≤ most_quantity
@@ -93,7 +93,7 @@ module _ (p : OpenedPaper) (water : ℕ) (closing : Option ℕ) (estimate : Opti
   pub fix_refused : (n : Node) (f : Refusal) → n ≡ node_at p.node w → unused p.node w.nodes ≡ false
       → outside water closing estimate ≡ false
       → given (λ r. ltb r n.register) closing ≡ false → as_due n closing estimate ≡ true
-      → refusal (heat-why estimate) ≡ Some f → refusal (fix_why p water closing estimate w) ≡ Some f
+      → refusal (heat_why estimate) ≡ Some f → refusal (fix_why p water closing estimate w) ≡ Some f
   fix_refused n f is used within rises due told =
       let at : Node → Type 0 = λ m. given (λ r. ltb r m.register) closing ≡ false → as_due m closing estimate ≡ true → refusal (fix_why p water closing estimate w) ≡ Some f in
       subst at (sym is)

@@ -39,16 +39,16 @@ module _ (texts : ℕ → List ℕ → List Text) (at c : ℕ) (cs : List ℕ) (
   ended = ap (λ (k : ℕ). record { place = at; bytes = [] } ∷ texts k cs) (omega arith)
 
 -- the first line and the others
-abbrev line_first-of : ℕ → List ℕ → ℕ → List Text
-line_first-of at bs n = record { place = at; bytes = take n bs } ∷ lines_from (at + n + 1) (drop (n + 1) bs)
+abbrev line_first_of : ℕ → List ℕ → ℕ → List Text
+line_first_of at bs n = record { place = at; bytes = take n bs } ∷ lines_from (at + n + 1) (drop (n + 1) bs)
 
-line_step : (at c : ℕ) (cs : List ℕ) (b : Bool) → (0 < length cs → lines_from (at + 1) cs ≡ line_first-of (at + 1) cs (upto 10 cs))
-    → cond b (record { place = at; bytes = [] } ∷ lines_from (at + 1) cs) (led at c (lines_from (at + 1) cs)) ≡ line_first-of at (c ∷ cs) (cond (not b) (1 + upto 10 cs) 0)
+line_step : (at c : ℕ) (cs : List ℕ) (b : Bool) → (0 < length cs → lines_from (at + 1) cs ≡ line_first_of (at + 1) cs (upto 10 cs))
+    → cond b (record { place = at; bytes = [] } ∷ lines_from (at + 1) cs) (led at c (lines_from (at + 1) cs)) ≡ line_first_of at (c ∷ cs) (cond (not b) (1 + upto 10 cs) 0)
 line_step at c cs true h = ended lines_from at c cs 0
 line_step at c [] false h = refl
 line_step at c (x ∷ xs) false h = longer lines_from at c (x ∷ xs) (upto 10 (x ∷ xs)) (h (omega arith))
 
-line_first : (at : ℕ) (bs : List ℕ) → 0 < length bs → lines_from at bs ≡ line_first-of at bs (upto 10 bs)
+line_first : (at : ℕ) (bs : List ℕ) → 0 < length bs → lines_from at bs ≡ line_first_of at bs (upto 10 bs)
 line_first at [] h = absurd (omega arith)
 line_first at (c ∷ cs) h = line_step at c cs (eqb c 10) (line_first (at + 1) cs)
 
@@ -61,7 +61,7 @@ module _ (file : List ℕ) (from : ℕ) {n : ℕ} (some : from < length file) (l
   lines_after : lines_from from (drop from file) ≡ record { place = from; bytes = between from (from + n) file } ∷ lines_from (from + n + 1) (drop (from + n + 1) file)
   lines_after =
       line_first from (drop from file) (omega (arith, length-drop from file))
-      ∙ ap (line_first-of from (drop from file)) (sym (long ∙ ap (upto 10) (take_rest file from)))
+      ∙ ap (line_first_of from (drop from file)) (sym (long ∙ ap (upto 10) (take_rest file from)))
       ∙ ap (λ (k : ℕ). record { place = from; bytes = take k (drop from file) } ∷ lines_from (from + n + 1) (drop (n + 1) (drop from file))) (omega arith)
       ∙ ap (λ (bs : List ℕ). record { place = from; bytes = between from (from + n) file } ∷ lines_from (from + n + 1) bs) (drop-drop (n + 1) from file ∙ ap (λ (k : ℕ). drop k file) (omega arith))
 
@@ -75,15 +75,15 @@ module _ (file : List ℕ) (from : ℕ) {n : ℕ} (some : from < length file) (l
       ∙ ap (λ (bs : List ℕ). record { place = from; bytes = between from (from + n) file } ∷ lines_from next bs) (sym (drop_all next file (omega arith)))
 
 -- the first field and the others
-abbrev field_first-of : ℕ → List ℕ → ℕ → List Text
-field_first-of at bs n = record { place = at; bytes = take n bs } ∷ fields_from (at + n + 1) (drop (n + 1) bs)
+abbrev field_first_of : ℕ → List ℕ → ℕ → List Text
+field_first_of at bs n = record { place = at; bytes = take n bs } ∷ fields_from (at + n + 1) (drop (n + 1) bs)
 
-field_step : (at c : ℕ) (cs : List ℕ) (b : Bool) → (upto 59 cs < length cs → fields_from (at + 1) cs ≡ field_first-of (at + 1) cs (upto 59 cs)) → cond (not b) (1 + upto 59 cs) 0 < suc (length cs)
-    → cond b (record { place = at; bytes = [] } ∷ fields_from (at + 1) cs) (led at c (fields_from (at + 1) cs)) ≡ field_first-of at (c ∷ cs) (cond (not b) (1 + upto 59 cs) 0)
+field_step : (at c : ℕ) (cs : List ℕ) (b : Bool) → (upto 59 cs < length cs → fields_from (at + 1) cs ≡ field_first_of (at + 1) cs (upto 59 cs)) → cond (not b) (1 + upto 59 cs) 0 < suc (length cs)
+    → cond b (record { place = at; bytes = [] } ∷ fields_from (at + 1) cs) (led at c (fields_from (at + 1) cs)) ≡ field_first_of at (c ∷ cs) (cond (not b) (1 + upto 59 cs) 0)
 field_step at c cs true h s = ended fields_from at c cs 0
 field_step at c cs false h s = longer fields_from at c cs (upto 59 cs) (h (omega arith))
 
-field_first : (at : ℕ) (bs : List ℕ) → upto 59 bs < length bs → fields_from at bs ≡ field_first-of at bs (upto 59 bs)
+field_first : (at : ℕ) (bs : List ℕ) → upto 59 bs < length bs → fields_from at bs ≡ field_first_of at bs (upto 59 bs)
 field_first at [] h = absurd (omega arith)
 field_first at (c ∷ cs) h = field_step at c cs (eqb c 59) (field_first (at + 1) cs) h
 
@@ -119,7 +119,7 @@ module _ (file : List ℕ) (from to : ℕ) {bs : List ℕ} {n : ℕ} (are : bs �
   field_cut few =
       ap (fields_from from) (sym are)
       ∙ field_first from bs (omega arith)
-      ∙ ap (field_first-of from bs) (sym first)
+      ∙ ap (field_first_of from bs) (sym first)
       ∙ ap (λ (xs : List ℕ). record { place = from; bytes = xs } ∷ fields_from (from + n + 1) (drop (n + 1) bs)) (front few)
       ∙ ap (λ (xs : List ℕ). record { place = from; bytes = between from (from + n) file } ∷ fields_from (from + n + 1) xs) rest
 

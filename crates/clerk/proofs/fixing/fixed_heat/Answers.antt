@@ -8,7 +8,7 @@ use Rattle.book.specs.Sound.{node_good}
 use Rattle.book.specs.World.{new_node, world}
 use Rattle.book.proofs.Soundness.{parts}
 use Rattle.clerk.specs.Fixings.{estimate_heat, fix_why, fixing_of, rise_to}
-use Rattle.clerk.proofs.Heats.{carried_low, fix_refused, granted, heat-low, heat-why, inside, rise-low, rise-why}
+use Rattle.clerk.proofs.Heats.{carried_low, fix_refused, granted, heat-low, heat_why, inside, rise-low, rise_why}
 use Rattle.clerk.proofs.fixing.fixed_heat.Goals as goal
 
 pub heat_of-requires : goal.heat_of-requires
@@ -22,13 +22,13 @@ returns-in_err-estimated c =
     let f = c.in_err-estimated.field-0.0 in
     let why = fix_why paper c.args.water c.args.closing c.args.estimate (world t) in
     let at = get_or_read_under (world t).nodes paper.node _ n (new_node 0 0) c.index.ensures (omega arith) t.nodes.ok.0 in
-    let up = (granted (rise-why n c.args.closing) c.in_ok-risen.risen (rise_to n c.args.closing) c.in_ok-risen.ensures).0 in
-    let picked = refusal_is (heat-why c.args.estimate) f (estimate_heat c.args.estimate) c.in_err-estimated.ensures in
+    let up = (granted (rise_why n c.args.closing) c.in_ok-risen.risen (rise_to n c.args.closing) c.in_ok-risen.ensures).0 in
+    let picked = refusal_is (heat_why c.args.estimate) f (estimate_heat c.args.estimate) c.in_err-estimated.ensures in
     let p = err_from_is_err_and c.from_residual-in_err-estimated.result c.from_residual-in_err-estimated.ensures.1 in
     p.1 ∙ ap Err p.2
     ∙ refused why f (fixing_of paper c.args.water c.args.closing c.args.estimate (world t))
     (fix_refused paper c.args.water c.args.closing c.args.estimate (world t) n f at (lt-leb _ _ (omega (arith, t.nodes.ok.0))) (sym c.if-is_outside.ensures)
-    (none_hold (rise-why n c.args.closing) up).0 (sym c.if-not-is_due.ensures) picked)
+    (none_hold (rise_why n c.args.closing) up).0 (sym c.if-not-is_due.ensures) picked)
 
 pub overflow_add-heat : goal.overflow_add-heat
 overflow_add-heat c =
