@@ -58,10 +58,11 @@ module _ {K R : Type 0} (weight : K → Key) (meaning : R → Rule) (s₀ : Stat
   further : (i : ℕ) (answers : List Answer) → drop i answers ≡ drop i before → drop (i + 1) answers ≡ drop (i + 1) before
   further i answers same = sym (drop-drop 1 i answers) ∙ ap (drop 1) same ∙ drop-drop 1 i before
 
-  pub one_more : Light weight → ((r : R) → Rounds (meaning r)) → (i : ℕ) (answers : List Answer) (s s' : State) (d : Call K R) (a : Answer) → i < made calls before → sound s.store.world ≡ true
-      → Sofar i answers s → Stepped weight meaning s (get_or calls i d) a s' → Sofar (i + 1) (set answers i a) s'
-  one_more light rounds i answers s s' d a low good old next =
+  pub one_more : Light weight → ((r : R) → Rounds (meaning r)) → (i : ℕ) (answers : List Answer) (s s' : State) (d : Call K R) (a : Answer) → i < made calls before
+      → sound s.store.world ≡ true → Sofar i answers s → Stepped weight meaning s d a s' → d ≡ get_or calls i d → Sofar (i + 1) (set answers i a) s'
+  one_more light rounds i answers s s' d a low good old stepped this =
       let c = get_or calls i d in
+      let next = subst (λ x. Stepped weight meaning s x a s') this stepped in
       let calls_more = take_more calls i d (omega arith) in
       let answers_more = take_more_set answers i a (omega (arith, old.long)) in
       let level : length (take i answers) ≡ length (take i calls) = length-take-le i answers (omega (arith, old.long)) ∙ sym (length-take-le i calls (omega arith)) in
