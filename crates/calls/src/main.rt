@@ -7,7 +7,7 @@ use agreement::call::{Answer, Call};
 use agreement::desk::Desk;
 use agreement::run::run;
 use book::tables::Places;
-use rows::ROWS;
+use rows::{MIXED, PLAIN};
 use sharing::key::ByPower;
 use sharing::rounding::Nearest;
 
@@ -24,10 +24,10 @@ const COUNT: usize = 20;
 // Some of them are refused.
 fn calls() -> [Call<ByPower, Nearest>; COUNT] {
     [
-        Call::EnterRow { row: ROWS[0] },
-        Call::EnterRow { row: ROWS[1] },
-        Call::EnterRow { row: ROWS[2] },
-        Call::EnterRow { row: ROWS[0] },
+        Call::EnterRow { row: PLAIN },
+        Call::EnterRow { row: PLAIN },
+        Call::EnterRow { row: MIXED },
+        Call::EnterRow { row: PLAIN },
         Call::EnterRecipient,
         Call::EnterRecipient,
         Call::EnterRecipient,
