@@ -1,11 +1,9 @@
 -- What a run from new keeps: the book and the papers agree with the history.
-use Rattle.std.proofs.Common.{◌≡◌, ℕ, ◌+◌, ◌-◌, ◌*◌, ◌<◌, ◌≤◌, true, cond, eqb, List, [], ◌∷◌, ◌++◌, map, length, get_or, set, pos, sym, refl, ap, ◌∙◌, subst, inl, inr, arith}
-use Rattle.std.specs.List.{range_with_len, AllByRecursion}
-use Rattle.std.proofs.ByRecursion.{All-get_or, All-map, All-weaker}
-use Rattle.std.proofs.lemmas.List.{get_or_past, length_push, length-set, take-append-le, take_all}
+use Rattle.std.proofs.Common.{◌≡◌, ℕ, ◌+◌, ◌-◌, ◌*◌, ◌<◌, ◌≤◌, true, cond, eqb, List, [], ◌∷◌, ◌++◌, map, length, get_or, set, pos, sym, refl, ap, ◌∙◌, inl, inr, arith}
+use Rattle.std.specs.List.{All}
+use Rattle.std.proofs.lemmas.List.{places, get_or_past, length_push, length-set, take-append-le, take_all}
 use Rattle.std.proofs.lemmas.Bool.{cond_both, cond-true, cond-false, eq-eqb, false≢true, ne_eqb}
 use Rattle.sharing.specs.Cuts.{cut}
-use Rattle.sharing.specs.Limits.{most_power}
 use Rattle.sharing.specs.Whole.{nearest}
 use Rattle.tariff.specs.Charges.{divisor}
 use Rattle.tariff.specs.Rows.{price, price_over, rows_good}
@@ -23,11 +21,10 @@ use Rattle.book.specs.declared.records.Node.{Node}
 use Rattle.book.specs.declared.records.Object.{Object}
 use Rattle.book.specs.declared.records.Recipient.{Recipient}
 use Rattle.agreement.specs.Facts.{Event, Month, Fault, Repair, meter, months, named, node_entered, nodes, object_changed, object_entered, objects, office, over_months, papers, recipient_entered, rises, row_entered, rows}
-use Rattle.agreement.specs.Law.{ChargeAgrees, Law, charges_standing, no_share}
+use Rattle.agreement.specs.Law.{Law, charges_standing, no_share}
 use Rattle.agreement.specs.Runs.{Paper}
 use Rattle.agreement.proofs.Balances.{balance_in}
-use Rattle.agreement.proofs.Lists.{map_same}
-use Rattle.agreement.proofs.MonthLines.{counting_low}
+use Rattle.agreement.proofs.Lists.{all_made_below, map_same}
 use Rattle.agreement.proofs.Months.{Fit, MonthStands, charge_agrees, heat-agrees, month_used, water-agrees}
 use Rattle.agreement.proofs.Nodes.{NodesFit, nodes-keep, nodes-push, nodes-set}
 use Rattle.agreement.proofs.Papers.{Moves, PapersFit, moves_push, moves_set, node_in, papers-move}
@@ -53,28 +50,28 @@ pub record Agrees (h : List Event) (w : World) (ps : List Paper) : Type 0 where
   pub named-are : NodesFit w.nodes (nodes h)
   pub metered : (k : ℕ) → MeterFits h k (node_in w.nodes k)
   pub papers-are : PapersFit w.nodes ps (papers h)
-  pub lines_are : AllByRecursion (LineBefore w.nodes) w.lines
-  pub months-are : AllByRecursion (MonthFits w.rows w.lines w.nodes) (months h)
+  pub lines_are : All (LineBefore w.nodes) w.lines
+  pub months-are : All (MonthFits w.rows w.lines w.nodes) (months h)
   pub balances : (q : ℕ) → balance_in w.recipients q ≡ charges_standing q w.lines (months h)
 
 pub none_yet : (w : World) → w ≡ empty w.places → (ps : List Paper) → ps ≡ [] → Agrees [] w ps
-none_yet w new ps none = subst (λ v. Agrees [] v ps) (sym new) (subst (Agrees [] (empty w.places)) (sym none) (record {
+none_yet w new ps none = rw (new, none) (record {
   rows_are = refl;
   objects-are = refl;
   named-are = record { count = refl; each = λ n. record { month = refl; register = λ _. refl } };
   metered = λ k. (refl, λ _. refl);
   papers-are = record { count = refl; each = λ i. tt };
-  lines_are = tt;
-  months-are = tt;
+  lines_are = λ k d low. absurd (omega arith);
+  months-are = λ k d low. absurd (omega arith);
   balances = λ q. refl;
-}))
+})
 
 -- where rows are sound, the law follows
 pub lawful : (h : List Event) (w : World) (ps : List Paper) → rows_good w.rows ≡ true → Agrees h w ps → Law h w
 lawful h w ps good a = record {
-  heat = All-weaker _ _ (λ x f. heat-agrees w.rows w.lines x f.fit f.stands) (months h) a.months-are;
-  water = All-weaker _ _ (λ x f. water-agrees w.rows w.lines x f.fit f.stands) (months h) a.months-are;
-  charges = λ c. subst (λ rs. AllByRecursion (ChargeAgrees rs w.lines c) (months h)) a.rows_are (All-weaker _ _ (λ x f. charge_agrees w.rows w.lines x f.fit f.stands good c) (months h) a.months-are);
+  heat = λ k d low. let f = a.months-are k d low in heat-agrees w.rows w.lines _ f.fit f.stands;
+  water = λ k d low. let f = a.months-are k d low in water-agrees w.rows w.lines _ f.fit f.stands;
+  charges = λ c k d low. let f = a.months-are k d low in rw (← a.rows_are) (charge_agrees w.rows w.lines _ f.fit f.stands good c);
   balances = a.balances;
   meter = λ n. (a.metered n).0;
 }
@@ -87,15 +84,12 @@ price-stays rs r c i low =
     sym (worked_out-below (price_over c) (rs ++ r ∷ []) (length rs) i (omega (arith, length_push rs r)) low)
     ∙ ap (λ xs. price c xs i) (take-append-le (length rs) rs (r ∷ []) (omega arith) ∙ take_all (length rs) rs (omega arith))
 
-charged-stays : (rs : List Row) (r : Row) (c : Charge) (us : List Use) → AllByRecursion (λ u. u.row < length rs) us → charged c (rs ++ r ∷ []) us ≡ charged c rs us
+charged-stays : (rs : List Row) (r : Row) (c : Charge) (us : List Use) → All (λ u. u.row < length rs) us → charged c (rs ++ r ∷ []) us ≡ charged c rs us
 charged-stays rs r c us known =
-    ap (cut (λ n. nearest n (divisor c))) (map_same _ _ us (All-weaker _ _ (λ u low. ap (λ p. quantity c u * p) (price-stays rs r c u.row low)) us known))
+    ap (cut (λ n. nearest n (divisor c))) (map_same _ _ us (λ k d low. ap (λ p. quantity c (get_or us k d) * p) (price-stays rs r c (get_or us k d).row (known k d low))))
 
-used_known : (rs : List Row) (x : Month) → Fit rs x → AllByRecursion (λ u. u.row < length rs) (month_used x)
-used_known rs x fit =
-    All-map _ _ (range_with_len 0 (length x.shares))
-    (All-weaker _ _ (λ i within. (All-get_or (λ s. (s.row < length rs) × (s.kw ≤ most_power)) x.shares i no_share within fit.known).0)
-    (range_with_len 0 (length x.shares)) (counting_low 0 (length x.shares) (length x.shares) (omega arith)))
+used_known : (rs : List Row) (x : Month) → Fit rs x → All (λ u. u.row < length rs) (month_used x)
+used_known rs x fit = all_made_below (λ u. u.row < length rs) _ (length x.shares) (λ i within. (fit.known i no_share within).0)
 
 month-with_row : (rs : List Row) (r : Row) (lines : List Line) (ns : List Node) (x : Month) → MonthFits rs lines ns x → MonthFits (rs ++ r ∷ []) lines ns x
 month-with_row rs r lines ns x f =
@@ -105,7 +99,7 @@ month-with_row rs r lines ns x f =
         heat-may = f.fit.heat-may;
         water-may = f.fit.water-may;
         rounds = f.fit.rounds;
-        known = All-weaker _ _ (λ s low. (omega (arith, low.0), low.1)) x.shares f.fit.known;
+        known = λ k d low. let was = f.fit.known k d low in (omega (arith, was.0), was.1);
       };
       stands = record {
         heat = f.stands.heat;
@@ -122,16 +116,14 @@ abbrev pub Later : List Node → List Node → Type 0
 Later ns ns' = (n : ℕ) → (node_in ns n).month ≤ (node_in ns' n).month
 
 later_push : (ns : List Node) (m r : ℕ) → Later ns (ns ++ new_node m r ∷ [])
-later_push ns m r =
-    push_cases (new_node 0 0) ns (new_node m r) (λ n x. (node_in ns n).month ≤ x.month)
-    (let none = ap (λ (x : Node). x.month) (get_or_past ns (length ns) (new_node 0 0) (omega arith)) in omega (arith, none)) (λ n. omega arith)
+later_push ns m r n = grind (arith, places, get_or_past {X = Node}, length_push {X = Node})
 
 pub later_set : (ns : List Node) (k : ℕ) (new : Node) → k < length ns → (node_in ns k).month ≤ new.month → Later ns (set ns k new)
 later_set ns k new within more = set_cases (new_node 0 0) ns new (λ n x. (node_in ns n).month ≤ x.month) k within more (λ n other. omega arith)
 
 module _ (ns ns' : List Node) (later : Later ns ns') where
-  pub lines-later : (ls : List Line) → AllByRecursion (LineBefore ns) ls → AllByRecursion (LineBefore ns') ls
-  lines-later ls before = All-weaker _ _ (λ l low is. let more = later l.node in let was = low is in omega arith) ls before
+  pub lines-later : (ls : List Line) → All (LineBefore ns) ls → All (LineBefore ns') ls
+  lines-later ls before k d low is = let more = later (get_or ls k d).node in let was = before k d low is in omega arith
 
   pub month-later : (rs : List Row) (ls : List Line) (x : Month) → MonthFits rs ls ns x → MonthFits rs ls ns' x
   month-later rs ls x f = record { fit = f.fit; stands = f.stands; before = let more = later x.node in omega (arith, f.before) }
@@ -145,7 +137,7 @@ module _ (h : List Event) (w : World) (ps : List Paper) (a : Agrees h w ps) wher
     metered = a.metered;
     papers-are = a.papers-are;
     lines_are = a.lines_are;
-    months-are = All-weaker _ _ (month-with_row w.rows r w.lines w.nodes) (months h) a.months-are;
+    months-are = λ k d low. month-with_row w.rows r w.lines w.nodes _ (a.months-are k d low);
     balances = a.balances;
   }
 
@@ -199,7 +191,7 @@ module _ (h : List Event) (w : World) (ps : List Paper) (a : Agrees h w ps) wher
             a.metered;
         papers-are = papers-move w.nodes _ (omega (arith, length_push w.nodes (new_node m r))) (moves_push w.nodes (new_node m r)) ps (papers h) a.papers-are;
         lines_are = lines-later w.nodes _ later w.lines a.lines_are;
-        months-are = All-weaker _ _ (month-later w.nodes _ later w.rows w.lines) (months h) a.months-are;
+        months-are = λ k d low. month-later w.nodes _ later w.rows w.lines _ (a.months-are k d low);
         balances = a.balances;
       }
 
@@ -215,12 +207,10 @@ module _ (h : List Event) (w : World) (ps : List Paper) (a : Agrees h w ps) wher
           objects-are = a.objects-are ∙ sym same_objects;
           named-are = named-are;
           metered = set_cases (new_node 0 0) w.nodes new (λ n x. MeterFits (e ∷ h) n x) k within here elsewhere;
-          papers-are = subst (PapersFit (set w.nodes k new) ps) (sym same_papers)
-              (papers-move w.nodes _ (omega (arith, length-set w.nodes k new)) (moves_set w.nodes k new within moved) ps (papers h) a.papers-are);
+          papers-are = rw same_papers (papers-move w.nodes _ (omega (arith, length-set w.nodes k new)) (moves_set w.nodes k new within moved) ps (papers h) a.papers-are);
           lines_are = lines-later w.nodes _ later w.lines a.lines_are;
-          months-are = subst (AllByRecursion (MonthFits w.rows w.lines (set w.nodes k new))) (sym same_months)
-              (All-weaker _ _ (month-later w.nodes _ later w.rows w.lines) (months h) a.months-are);
-          balances = λ q. a.balances q ∙ ap (charges_standing q w.lines) (sym same_months);
+          months-are = rw same_months (λ k d low. month-later w.nodes _ later w.rows w.lines _ (a.months-are k d low));
+          balances = rw same_months a.balances;
         }
 
   module _ (k r : ℕ) (within : k < length w.nodes) where

@@ -1,8 +1,8 @@
 -- An import keeps the agreement: it is the postings of the lines that it took.
-use Rattle.std.proofs.Common.{◌≡◌, ℕ, suc, ◌+◌, ◌-◌, ◌≤◌, true, false, not, ltb, List, [], ◌∷◌, take, drop, Some, None, Ok, Err, Result, sym, refl, ap, ◌∙◌, subst, inr, le_trans, arith, lit≤}
-use Rattle.std.proofs.lemmas.Bool.{and_parts, leb-false, ltb-false, not-false, or_parts}
+use Rattle.std.proofs.Common.{true, ◌≡◌, ℕ, suc, ◌+◌, ◌-◌, ◌≤◌, false, not, ltb, List, [], ◌∷◌, take, drop, Some, None, Ok, Err, Result, sym, refl, ap, ◌∙◌, subst, le_trans, arith, lit≤}
+use Rattle.std.specs.Bool.{beq}
+use Rattle.std.proofs.lemmas.Bool.{and_parts, ltb-false, not-false, or_parts}
 use Rattle.sharing.specs.Keys.{by_power}
-use Rattle.sharing.specs.Limits.{most_quantity}
 use Rattle.sharing.specs.Refusals.{refusal}
 use Rattle.sharing.specs.Whole.{nearest}
 use Rattle.sharing.specs.declared.refusal.Refusal.{Refusal}
@@ -24,10 +24,9 @@ use Rattle.agreement.specs.Facts.{Event, clerk, month_posted, named}
 use Rattle.agreement.specs.History.{after_import, after_reading, after_readings, read_slip}
 use Rattle.agreement.specs.Runs.{Paper}
 use Rattle.agreement.proofs.Agrees.{Agrees}
-use Rattle.agreement.proofs.Fixing.{same_bool}
+use Rattle.agreement.proofs.Fixing.{fixing-written, same_bool}
 use Rattle.agreement.proofs.Months.{nearest-rounds}
-use Rattle.agreement.proofs.Papers.{Written}
-use Rattle.agreement.proofs.Posting.{agrees_posted, slip_of}
+use Rattle.agreement.proofs.Posting.{agrees_posted}
 
 -- one line
 module _ (h : List Event) (w : World) (ps : List Paper) (a : Agrees h w ps) (sound : Sound w) (r : Reading) (granted : refusal (reading_entry r w).why ≡ None) where
@@ -37,25 +36,14 @@ module _ (h : List Event) (w : World) (ps : List Paper) (a : Agrees h w ps) (sou
       let f = reading_fixing r w in
       let n = node_at r.node w in
       let none = none_hold (fix_why (opened r.node w) r.water (Some r.closing) None w) granted_later.0 in
-      let due = and_parts _ _ (not-false _ none.1.1.1.0) in
-      let closing : true ≡ works n.meter = same_bool _ _ due.0 in
+      let due : (beq true (works n.meter) ≡ true) × (beq false (estimate_due n) ≡ true) = and_parts _ _ (not-false _ none.1.1.1.0) in
       let no_estimate : false ≡ estimate_due n = same_bool _ _ due.1 in
       let events = ltb-false 0 n.events (or_parts (not (works n.meter)) (ltb 0 n.events) (sym no_estimate)).1 in
       let carried = (a.metered r.node).1 (omega arith) in
-      let register = (a.named-are.each r.node).register (sym closing) in
-      let fits : Written w.nodes f (slip_of f) = record {
-        node = refl;
-        heat = refl;
-        water = refl;
-        estimate = refl;
-        closing = refl;
-        used = leb-false _ _ none.0;
-        heat-low = ltb-false _ _ none.1.1.1.1.1.0;
-        water-low = ltb-false _ _ (or_parts (ltb most_quantity r.water) _ none.1.0).0;
-        dated = inr (inr (refl, refl, record { heat = refl; closing = closing }));
-      } in
+      let register = (a.named-are.each r.node).register (sym (same_bool _ _ due.0)) in
+      let fits = fixing-written w (opened r.node w) (record { water = r.water; closing = Some r.closing; estimate = None }) granted_later.0 r.node refl in
       let heat : f.heat ≡ r.closing - (named r.node h).register = omega (arith, carried, register) in
-      subst (λ k. Agrees (clerk (month_posted (record { node = r.node; heat = k; water = r.water; estimate = 0; closing = Some r.closing }) by_power nearest) ∷ h) (reading_entry r w).after ps) heat
+      rw (← heat)
       (agrees_posted by_power (λ o p a low _. le_trans low (lit≤ tt)) nearest nearest-rounds f h w ps a sound granted_later.1 fits)
 
 ends_agrees : (h : List Event) (ps : List Paper) (x : ImportAnswer) (s : Store) (a : ImportAnswer) (s' : Store) (c : Columns) (k : ℕ) (ls : List Text) → x.taken ≡ k → Agrees h s.world ps → Ends x s a s'
@@ -63,7 +51,7 @@ ends_agrees : (h : List Event) (ps : List Paper) (x : ImportAnswer) (s : Store) 
 ends_agrees h ps x s a s' c k ls here old e =
     let taken : a.taken ≡ k = ap (λ (y : ImportAnswer). y.taken) e.0 ∙ here in
     let none : a.taken - k ≡ 0 = omega arith in
-    (omega arith, subst (λ n. Agrees (after_readings c (take n ls) h) s'.world ps) (sym none) (subst (λ t. Agrees h t.world ps) (sym e.1) old))
+    (omega arith, rw (none, e.1) old)
 
 -- the lines taken
 taken_agrees : (c : Columns) (ps : List Paper) (k : ℕ) (ls : List Text) (h : List Event) (s : Store) (a : ImportAnswer) (s' : Store) → Agrees h s.world ps → Sound s.world → Taken c k ls s a s'
@@ -76,8 +64,7 @@ taken_agrees c ps k (l ∷ rest) h s a s' old sound t = line (reading_of c l) re
     more g told same =
         let one : a.taken - k ≡ suc (a.taken - (k + 1)) = let low = told.0 in omega arith in (
           let low = told.0 in omega arith,
-          subst (λ n. Agrees (after_readings c (take n (l ∷ rest)) h) s'.world ps) (sym one)
-              (subst (λ h. Agrees (after_readings c (take (a.taken - (k + 1)) rest) h) s'.world ps) (sym same) told.1),
+          rw one (subst (λ h. Agrees (after_readings c (take (a.taken - (k + 1)) rest) h) s'.world ps) (sym same) told.1),
         )
 
     goes : (r : Reading) → reading_of c l ≡ Ok r → (next : Store) (x : Result (Unit {0}) Refusal) → Outcome (reading_entry r) s next x → Goes k l (λ next. Taken c (k + 1) rest next a s') next a s' x
@@ -86,9 +73,9 @@ taken_agrees c ps k (l ∷ rest) h s a s' old sound t = line (reading_of c l) re
     goes r is next (Ok y) o g later =
         let new = clerk (month_posted (read_slip r h) by_power nearest) ∷ h in
         more new
-        (later new next (subst (λ w. Agrees new w ps) (sym o.left) (agrees_reading h s.world ps old sound r o.granted)) (subst Sound (sym o.left) (keeps_reading r s.world o.granted sound)) g)
+        (later new next (rw o.left (agrees_reading h s.world ps old sound r o.granted)) (rw o.left (keeps_reading r s.world o.granted sound)) g)
         (ap (after_reading c h) is)
-    goes r is next (Err f) o g later = ends_agrees h ps _ next a s' c k (l ∷ rest) refl (subst (λ w. Agrees h w ps) (sym o.unchanged) old) g
+    goes r is next (Err f) o g later = ends_agrees h ps _ next a s' c k (l ∷ rest) refl (rw o.unchanged old) g
 
     line : (x : Result Reading LineFault) → reading_of c l ≡ x → TakesLine k l (λ next. Taken c (k + 1) rest next a s') s a s' x
         → ((g : List Event) (next : Store) → Agrees g next.world ps → Sound next.world → Taken c (k + 1) rest next a s' → (k + 1 ≤ a.taken) × Agrees (after_readings c (take (a.taken - (k + 1)) rest) g) s'.world ps)
@@ -105,5 +92,5 @@ agrees_import file h ps s a s' old sound e = begins (columns_by (first (lines_fr
     begins (Ok c) t =
         let told = taken_agrees c ps 0 (drop 1 (lines_from 0 file)) h s a s' old sound t in
         let all : a.taken - 0 ≡ a.taken = omega arith in
-        subst (λ n. Agrees (after_readings c (take n (drop 1 (lines_from 0 file))) h) s'.world ps) all told.1
-    begins (Err f) t = subst (λ t. Agrees h t.world ps) (sym t.1) old
+        rw (← all) told.1
+    begins (Err f) t = rw t.1 old

@@ -1,6 +1,6 @@
 -- The papers of a list agree with the history, and a fixed one with its node for as long as it may be posted.
-use Rattle.std.proofs.Common.{◌≡◌, ℕ, ◌+◌, ◌<◌, ◌≤◌, ◌⊎◌, List, [], ◌∷◌, ◌++◌, length, get_or, set, is_some, sym, refl, ◌∙◌, subst, inl, inr, arith}
-use Rattle.std.proofs.lemmas.List.{get_or_append_left, length_push, length-set, set-get_or}
+use Rattle.std.proofs.Common.{◌≡◌, ℕ, ◌+◌, ◌<◌, ◌≤◌, ◌⊎◌, List, [], ◌∷◌, ◌++◌, length, get_or, set, is_some, sym, refl, ◌∙◌, inr, arith}
+use Rattle.std.proofs.lemmas.List.{places, get_or_past, length_push, length-set, set-get_or}
 use Rattle.sharing.specs.Limits.{most_quantity}
 use Rattle.book.specs.Meters.{works}
 use Rattle.book.specs.World.{new_node}
@@ -48,18 +48,16 @@ pub record PapersFit (ns : List Node) (ps : List Paper) (ss : List Slip) : Type 
   pub count : length ps ≡ length ss
   pub each : (i : ℕ) → PaperFits ns (get_or ps i posted_paper) (get_or ss i (blank 0))
 
+-- a number under which a paper is that is not used up
+pub paper_among : (ps : List Paper) (i : ℕ) → (get_or ps i posted_paper ≡ posted_paper → ⊥) → i < length ps
+paper_among ps i other = grind (arith, get_or_past {X = Paper})
+
 -- the nodes may change so that no paper becomes current again
 abbrev pub Moves : Node → Node → Type 0
 Moves n n' = (n.month < n'.month) ⊎ (((n.month ≡ n'.month) × (n.events < n'.events)) ⊎ (n ≡ n'))
 
 dated_moves : (f : Fixing) (n n' : Node) → Moves n n' → Dated f n → Dated f n'
-dated_moves f n n' (inl later) (inl early) = inl (omega arith)
-dated_moves f n n' (inl later) (inr (inl fewer)) = inl (omega arith)
-dated_moves f n n' (inl later) (inr (inr current)) = inl (omega (arith, current.0))
-dated_moves f n n' (inr (inl more)) (inl early) = inl (omega arith)
-dated_moves f n n' (inr (inl more)) (inr (inl fewer)) = inr (inl (fewer.0 ∙ more.0, omega arith))
-dated_moves f n n' (inr (inl more)) (inr (inr current)) = inr (inl (current.0 ∙ more.0, omega (arith, current.1)))
-dated_moves f n n' (inr (inr same)) dated = subst (Dated f) same dated
+dated_moves f n n' moved dated = grind arith
 
 module _ (ns ns' : List Node) (long : length ns ≤ length ns') (moves : (n : ℕ) → n < length ns → Moves (node_in ns n) (node_in ns' n)) where
   paper_moves : (p : Paper) (s : Slip) → PaperFits ns p s → PaperFits ns' p s
@@ -83,7 +81,7 @@ module _ (ns ns' : List Node) (long : length ns ≤ length ns') (moves : (n : �
 
 -- one node more
 pub moves_push : (ns : List Node) (new : Node) (n : ℕ) → n < length ns → Moves (node_in ns n) (node_in (ns ++ new ∷ []) n)
-moves_push ns new n within = inr (inr (sym (get_or_append_left ns (new ∷ []) (new_node 0 0) n within)))
+moves_push ns new n within = grind (arith, places)
 
 -- one node changed
 pub moves_set : (ns : List Node) (k : ℕ) (new : Node) → k < length ns → Moves (node_in ns k) new → (n : ℕ) → n < length ns → Moves (node_in ns n) (node_in (set ns k new) n)
@@ -94,16 +92,16 @@ module _ (ns : List Node) (ps : List Paper) (ss : List Slip) (fit : PapersFit ns
   pub papers-push : (p : OpenedPaper) (n : ℕ) → p.node ≡ n → PapersFit ns (ps ++ blank_paper p ∷ []) (ss ++ blank n ∷ [])
   papers-push p n same = record {
     count = omega (arith, length_push ps (blank_paper p), length_push ss (blank n), fit.count);
-    each = push_both posted_paper (blank 0) ps ss fit.count (blank_paper p) (blank n) (λ _ x s. PaperFits ns x s) same fit.each;
+    each = push_both posted_paper (blank 0) ps ss fit.count (blank_paper p) (blank n) (PaperFits ns) same fit.each;
   }
 
   -- one paper changed, and its slip
   pub papers-set : (k : ℕ) (p : Paper) (s : Slip) → k < length ps → PaperFits ns p s → PapersFit ns (set ps k p) (set ss k s)
   papers-set k p s within fits = record {
     count = length-set ps k p ∙ fit.count ∙ sym (length-set ss k s);
-    each = set_both posted_paper (blank 0) ps ss fit.count p s (λ _ x s. PaperFits ns x s) k within fits fit.each;
+    each = set_both posted_paper (blank 0) ps ss fit.count p s (PaperFits ns) fits fit.each k within;
   }
 
   -- a paper used up
   pub papers-spent : (k : ℕ) → k < length ps → PapersFit ns (set ps k posted_paper) ss
-  papers-spent k within = subst (PapersFit ns (set ps k posted_paper)) (set-get_or ss k (blank 0)) (papers-set k posted_paper (get_or ss k (blank 0)) within tt)
+  papers-spent k within = rw (set-get_or ss k (blank 0)) at (papers-set k posted_paper (get_or ss k (blank 0)) within tt)

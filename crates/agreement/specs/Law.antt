@@ -1,6 +1,7 @@
 -- Meter and accounts agree.
-use Rattle.std.specs.Prelude.{min, drop, ℤ, pos, ◌≢◌, unsigned_abs, List, [], map, ◌≡◌, ℕ, ◌+◌, ◌≤◌, ◌<◌, eqb, length, get_or, take, sum}
-use Rattle.std.specs.List.{range_with_len, AllByRecursion}
+use Rattle.std.specs.Prelude.{min, drop, ℤ, pos, ◌≢◌, unsigned_abs, List, [], map, ◌≡◌, ℕ, ◌+◌, ◌≤◌, ◌<◌, eqb, length, get_or, take, sum, unwrap_or, Result, Ok, Err}
+use Rattle.std.specs.List.{range_with_len, All}
+use Rattle.std.specs.Option.{option_map}
 use Rattle.sharing.specs.Amounts.{litres, megajoules}
 use Rattle.sharing.specs.Cuts.{shared}
 use Rattle.sharing.specs.Keys.{Key}
@@ -17,11 +18,15 @@ use Rattle.book.specs.Calls.{Ample}
 use Rattle.book.specs.Journal.{charge_of, heat_of, standing, summed, summed_where, water_of}
 use Rattle.book.specs.World.{World, balance_of, empty, node_at}
 use Rattle.book.specs.declared.records.Line.{Line}
+use Rattle.readings.specs.Faults.{report}
+use Rattle.readings.specs.declared.answer.ImportAnswer.{ImportAnswer}
 use Rattle.agreement.specs.Facts.{Event, Month, Share, months, over_months, rises, rows}
 use Rattle.agreement.specs.History.{history}
 use Rattle.agreement.specs.Runs.{Ran, State}
 use Rattle.agreement.specs.declared.call.Answer.{Answer}
-use Rattle.agreement.specs.declared.call.Answer.TheVariants.{Refused, NoPaper, Done, Entered, Opened, Fixed, Imported}
+use Rattle.agreement.specs.declared.call.Answer.TheVariants.{Done, Entered, Opened, Fixed, Imported}
+use Rattle.agreement.specs.declared.call.Failure.{Failure}
+use Rattle.agreement.specs.declared.call.Failure.TheVariants.{Refused, NoPaper}
 use Rattle.agreement.specs.declared.call.Call.{Call}
 
 -- what stands in the journal to one object of a month
@@ -80,30 +85,34 @@ charges_standing q lines xs = summed (λ x. summed_where (λ s. eqb s.recipient 
 
 -- the world w agrees with the history h
 pub record Law (h : List Event) (w : World) : Type 0 where
-  pub heat : AllByRecursion (HeatAgrees w.lines) (months h)
-  pub water : AllByRecursion (WaterAgrees w.lines) (months h)
-  pub charges : (c : Charge) → AllByRecursion (ChargeAgrees (rows h) w.lines c) (months h)
+  pub heat : All (HeatAgrees w.lines) (months h)
+  pub water : All (WaterAgrees w.lines) (months h)
+  pub charges : (c : Charge) → All (ChargeAgrees (rows h) w.lines c) (months h)
   -- a balance is the charges standing to the recipient's objects
   pub balances : (q : ℕ) → balance_of q w ≡ charges_standing q w.lines (months h)
   -- heat fixed for a node's posted months, plus heat carried, is counted rises plus posted estimates
   pub meter : (n : ℕ) → over_months (λ x. x.slip.heat) n h + (node_at n w).carried ≡ rises n h + over_months (λ x. x.slip.estimate) n h
 
+-- the number of the fault that stopped an import, and 0 where it went through
+abbrev pub number_stopped : ImportAnswer → ℕ
+number_stopped x = unwrap_or (option_map (λ s. (report s.fault).number) x.stop) 0
+
 -- the number of the refusal that an answer tells, and 0 where it tells none
-abbrev pub number_told : Answer → ℕ
-number_told (Refused f) = number f
-number_told NoPaper = 0
-number_told Done = 0
-number_told (Entered n) = 0
-number_told (Opened n) = 0
-number_told (Fixed heat) = 0
-number_told (Imported x) = x.number
+abbrev pub number_told : Result Answer Failure → ℕ
+number_told (Ok Done) = 0
+number_told (Ok (Entered n)) = 0
+number_told (Ok (Opened n)) = 0
+number_told (Ok (Fixed heat)) = 0
+number_told (Ok (Imported x)) = number_stopped x
+number_told (Err (Refused f)) = number f
+number_told (Err NoPaper) = 0
 
 -- how many calls are made: as many as there are places for answers
-abbrev pub made : {C : Type 0} → List C → List Answer → ℕ
+abbrev pub made : {C : Type 0} → List C → List (Result Answer Failure) → ℕ
 made calls answers = min (length calls) (length answers)
 
 -- the promise of a run, for every list of calls: from s it ends at s', and the answers stand in the places lent for them
-pub record Agreement {K R : Type 0} (weight : K → Key) (meaning : R → Rule) (s : State) (calls : List (Call K R)) (before answers : List Answer) (s' : State) : Type 0 where
+pub record Agreement {K R : Type 0} (weight : K → Key) (meaning : R → Rule) (s : State) (calls : List (Call K R)) (before answers : List (Result Answer Failure)) (s' : State) : Type 0 where
   -- each answer and the book are the outcomes of the calls made, one after the other
   pub ran : Ran weight meaning s (take (made calls before) calls) (take (made calls before) answers) s'
   -- the places past the last answer are as they were
@@ -111,4 +120,4 @@ pub record Agreement {K R : Type 0} (weight : K → Key) (meaning : R → Rule) 
   -- where the book was new and there was no paper yet, meter and accounts agree
   pub law : s.store.world ≡ empty s.store.world.places → s.papers ≡ [] → Law (history weight meaning (take (made calls before) calls) (take (made calls before) answers)) s'.store.world
   -- where there was memory for every place and for a paper for each call, no call wanted any
-  pub memory : Ample s.store → length s.papers + made calls before ≤ s.room → AllByRecursion (λ a. number_told a ≢ number Memory) (take (made calls before) answers)
+  pub memory : Ample s.store → length s.papers + made calls before ≤ s.room → All (λ a. number_told a ≢ number Memory) (take (made calls before) answers)

@@ -1,7 +1,11 @@
 // The calls of a list, and their answers.
+ghost use Rattle.std.specs.Prelude.{◌≡◌};
+ghost use Rattle.agreement.specs.declared.call.Failure.TheVariants.{Refused};
+
+use book::records::Terms;
+use clerk::paper::Readout;
 use readings::answer::ImportAnswer;
 use sharing::refusal::Refusal;
-use tariff::estimate::Estimate;
 use tariff::row::Row;
 
 // Papers are named by the number, from 0, in which the list opened them.
@@ -18,15 +22,11 @@ pub enum Call<K, R> {
     EnterObject {
         node: usize,
         recipient: usize,
-        row: usize,
-        power: u64,
-        area: u64,
+        terms: Terms,
     },
     ChangeObject {
         object: usize,
-        row: usize,
-        power: u64,
-        area: u64,
+        terms: Terms,
     },
     ReportFault {
         node: usize,
@@ -41,9 +41,7 @@ pub enum Call<K, R> {
     },
     Fix {
         paper: usize,
-        water: u64,
-        closing: Option<u64>,
-        estimate: Option<Estimate>,
+        readout: Readout,
     },
     Post {
         paper: usize,
@@ -56,11 +54,9 @@ pub enum Call<K, R> {
     },
 }
 
-#[derive(Clone, Copy)]
+// What a call did.
+#[derive(Clone, Copy, Debug, PartialEq, Eq)]
 pub enum Answer {
-    Refused(Refusal),
-    // no paper of that number in the state that the call needs
-    NoPaper,
     Done,
     // the number of what was entered
     Entered(usize),
@@ -69,4 +65,20 @@ pub enum Answer {
     // the month's heat, MJ
     Fixed(u32),
     Imported(ImportAnswer),
+}
+
+// Why it did nothing.
+#[derive(Clone, Copy, Debug, PartialEq, Eq)]
+pub enum Failure {
+    Refused(Refusal),
+    // no paper of that number in the state that the call needs
+    NoPaper,
+}
+
+impl From<Refusal> for Failure {
+    ghost from_gives = { λ x y. y ≡ Refused x };
+
+    fn from(refusal: Refusal) -> Failure {
+        Failure::Refused(refusal)
+    }
 }

@@ -1,10 +1,9 @@
 -- The shape of every call: why it is refused, and what it answers and leaves otherwise.
-use Rattle.std.specs.Prelude.{min, vec_items, vec_capacity, Vec, MatchResult, ◌≡◌, ◌⊎◌, Bool, false, ◌&&◌, List, [], ◌∷◌, ◌++◌, ℕ, ◌≤◌, ◌<◌, leb, length, Some, None, Result, Ok, Err}
+use Rattle.std.specs.Prelude.{vec_items, vec_capacity, Vec, MatchResult, ◌≡◌, ◌⊎◌, Bool, false, ◌&&◌, List, [], ◌∷◌, ◌++◌, ℕ, ◌≤◌, ◌<◌, leb, length, Some, None, Result, Ok, Err}
 use Rattle.sharing.specs.Refusals.{refusal}
 use Rattle.sharing.specs.declared.refusal.Refusal.{Refusal}
 use Rattle.sharing.specs.declared.refusal.Refusal.TheVariants.{Memory}
-use Rattle.book.specs.Limits.{most_rows, most_recipients, most_nodes, most_objects_in_all, most_lines}
-use Rattle.book.specs.World.{Places, Store, World}
+use Rattle.book.specs.World.{Places, Store, World, allowed}
 
 -- a call at a world: every condition to refuse it, in the order in which they are looked at, and what it answers and leaves where none holds
 pub record Call (A : Type 0) : Type 0 where
@@ -67,11 +66,11 @@ Added v x v' (Err f) = (f ≡ Memory) × (vec_items v' ≡ vec_items v) × (vec_
 
 -- the tables have memory for every place that they may fill
 pub record Ample (s : Store) : Type 0 where
-  pub rows : min s.world.places.rows most_rows ≤ s.room.rows
-  pub recipients : min s.world.places.recipients most_recipients ≤ s.room.recipients
-  pub nodes : min s.world.places.nodes most_nodes ≤ s.room.nodes
-  pub objects : min s.world.places.objects most_objects_in_all ≤ s.room.objects
-  pub lines : min s.world.places.lines most_lines ≤ s.room.lines
+  pub rows : (allowed s.world.places).rows ≤ s.room.rows
+  pub recipients : (allowed s.world.places).recipients ≤ s.room.recipients
+  pub nodes : (allowed s.world.places).nodes ≤ s.room.nodes
+  pub objects : (allowed s.world.places).objects ≤ s.room.objects
+  pub lines : (allowed s.world.places).lines ≤ s.room.lines
 
 -- memory was got for every place, or there was not enough; what the tables hold stays
 pub record Provided (s s' : Store) (r : Result (Unit {0}) Refusal) : Type 0 where

@@ -29,8 +29,8 @@ event_why Repair n r = (works n.meter, WrongMeterState) ∷ (leb most_events n.e
 
 -- after a fault the last good register is stored and the rise to it is carried; after a repair the new register is stored, without a rise
 abbrev pub node_after : MeterEvent → Node → ℕ → Node
-node_after Fault n r = record { month = n.month; register = r; carried = n.carried + rise n r; events = n.events + 1; meter = Faulted }
-node_after Repair n r = record { month = n.month; register = r; carried = n.carried; events = n.events + 1; meter = Working }
+node_after Fault n r = record n { register = r; carried = n.carried + rise n r; events = n.events + 1; meter = Faulted }
+node_after Repair n r = record n { register = r; events = n.events + 1; meter = Working }
 
 -- a fault report or a repair
 abbrev pub meter_entry : MeterEvent → ℕ → ℕ → World → Call (Unit {0})

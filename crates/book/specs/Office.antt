@@ -5,15 +5,15 @@ use Rattle.sharing.specs.declared.refusal.Refusal.TheVariants.{Full, Unknown, Ou
 use Rattle.tariff.specs.Rows.{row_why}
 use Rattle.tariff.specs.declared.row.Row.{Row}
 use Rattle.book.specs.Calls.{Call}
-use Rattle.book.specs.Limits.{most_rows, most_recipients, most_nodes, most_objects_in_all, month_count, most_register}
-use Rattle.book.specs.Records.{Object}
+use Rattle.book.specs.Limits.{month_count, most_register}
+use Rattle.book.specs.Records.{Object, Terms}
 use Rattle.book.specs.Sound.{crowd}
-use Rattle.book.specs.World.{World, full, new_node, new_recipient, object_at, unused, with_nodes, with_objects, with_recipients, with_rows}
+use Rattle.book.specs.World.{World, allowed, full, new_node, new_recipient, object_at, unused, with_nodes, with_objects, with_recipients, with_rows}
 
 -- a row, above the rows in use
 abbrev pub row_entry : Row → World → Call ℕ
 row_entry r w = record {
-  why = (full w.places.rows most_rows w.rows, Full) ∷ row_why w.rows r;
+  why = (full (allowed w.places).rows w.rows, Full) ∷ row_why w.rows r;
   answer = length w.rows;
   after = with_rows w (w.rows ++ r ∷ []);
 }
@@ -21,7 +21,7 @@ row_entry r w = record {
 -- a recipient
 abbrev pub recipient_entry : World → Call ℕ
 recipient_entry w = record {
-  why = (full w.places.recipients most_recipients w.recipients, Full) ∷ [];
+  why = (full (allowed w.places).recipients w.recipients, Full) ∷ [];
   answer = length w.recipients;
   after = with_recipients w (w.recipients ++ new_recipient ∷ []);
 }
@@ -29,7 +29,7 @@ recipient_entry w = record {
 -- a node with its next month, which may be the one past the last, and its register
 abbrev pub node_entry : ℕ → ℕ → World → Call ℕ
 node_entry month register w = record {
-  why = (full w.places.nodes most_nodes w.nodes, Full) ∷ (ltb month_count month || ltb most_register register, OutOfRange) ∷ [];
+  why = (full (allowed w.places).nodes w.nodes, Full) ∷ (ltb month_count month || ltb most_register register, OutOfRange) ∷ [];
   answer = length w.nodes;
   after = with_nodes w (w.nodes ++ new_node month register ∷ []);
 }
@@ -37,7 +37,7 @@ node_entry month register w = record {
 -- an object of a node, a recipient and a row in use
 abbrev pub object_entry : Object → World → Call ℕ
 object_entry o w = record {
-  why = (full w.places.objects most_objects_in_all w.objects, Full)
+  why = (full (allowed w.places).objects w.objects, Full)
       ∷ (unused o.node w.nodes || (unused o.recipient w.recipients || unused o.row w.rows), Unknown)
       ∷ (ltb most_power o.power || ltb most_area o.area, OutOfRange)
       ∷ (leb most_objects (crowd o.node w.objects), NodeFull)
@@ -46,9 +46,13 @@ object_entry o w = record {
   after = with_objects w (w.objects ++ o ∷ []);
 }
 
+-- an object of a node and a recipient on terms
+abbrev pub object_on : ℕ → ℕ → Terms → Object
+object_on node recipient t = record { node = node; recipient = recipient; row = t.row; power = t.power; area = t.area }
+
 -- another row, power and area; node and recipient stay
 abbrev pub changed : Object → ℕ → ℕ → ℕ → Object
-changed o row power area = record { node = o.node; recipient = o.recipient; row = row; power = power; area = area }
+changed o row power area = record o { row = row; power = power; area = area }
 
 -- an object is changed for the months not yet posted
 abbrev pub change_entry : ℕ → ℕ → ℕ → ℕ → World → Call (Unit {0})

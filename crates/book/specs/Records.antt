@@ -10,7 +10,13 @@ pub use Rattle.book.specs.declared.records.MeterEvent.TheVariants.{Fault, Repair
 pub use Rattle.book.specs.declared.records.Node.{Node}
 pub use Rattle.book.specs.declared.records.Object.{Object}
 pub use Rattle.book.specs.declared.records.Recipient.{Recipient}
-use Rattle.std.specs.Prelude.{ℤ, List, [], ◌∷◌, ℕ}
+pub use Rattle.book.specs.declared.records.Terms.{Terms}
+use Rattle.std.specs.Prelude.{codes, ℤ, List, [], ◌∷◌, ℕ}
+
+-- the word for a meter's state
+abbrev pub meter_word : Meter → List ℕ
+meter_word Working = codes "working"
+meter_word Faulted = codes "faulted"
 
 -- the number of a kind of line
 abbrev pub kind_number : Kind → ℕ

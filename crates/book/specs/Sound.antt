@@ -1,23 +1,27 @@
 -- When stored tables are sound.
-use Rattle.std.specs.Prelude.{min, ℤ, pos, neg_ℤ, count_by, int_le, Bool, true, false, not, ◌&&◌, ◌||◌, List, ℕ, eqb, leb, ltb, length}
+use Rattle.std.specs.Prelude.{ℤ, pos, neg_ℤ, count_by, int_le, Bool, true, false, not, ◌&&◌, ◌||◌, List, ℕ, eqb, leb, ltb, length}
 use Rattle.std.specs.List.{list_all}
 use Rattle.sharing.specs.Limits.{most_quantity, most_power, most_area, most_objects}
 use Rattle.tariff.specs.Rows.{rows_good}
-use Rattle.book.specs.Limits.{most_rows, most_recipients, most_nodes, most_objects_in_all, most_lines, month_count, most_register, most_events, most_amount, most_balance}
+use Rattle.book.specs.Limits.{month_count, most_register, most_events, most_amount, most_balance}
 use Rattle.book.specs.Records.{Kind, Month, Correction, Discount, Extra, Payment, Line, Node, Object, Recipient, amounts_in}
-use Rattle.book.specs.World.{InUse, World, in_use}
+use Rattle.book.specs.World.{InUse, World, allowed, in_use}
 
--- a table holds no more than its owner grants, and no more than it may
-abbrev pub fits : {A : Type 0} → ℕ → ℕ → List A → Bool
-fits places most xs = leb (length xs) (min places most)
+-- a table holds no more than it has places for
+abbrev pub fits : {A : Type 0} → ℕ → List A → Bool
+fits places xs = leb (length xs) places
 
--- an amount of a line, or its heat, is within its limit either way
+-- a number is within a limit either way
+abbrev pub within : ℕ → ℤ → Bool
+within most z = int_le (neg_ℤ (pos most)) z && int_le z (pos most)
+
+-- an amount of a line, or its heat, is within its limit
 abbrev pub amount_good : ℤ → Bool
-amount_good z = int_le (neg_ℤ (pos most_amount)) z && int_le z (pos most_amount)
+amount_good z = within most_amount z
 
 -- and a balance
 abbrev pub balance_good : ℤ → Bool
-balance_good z = int_le (neg_ℤ (pos most_balance)) z && int_le z (pos most_balance)
+balance_good z = within most_balance z
 
 -- a recipient's balance is within its limit
 abbrev pub recipient_good : Recipient → Bool
@@ -62,11 +66,11 @@ crowd node objects = count_by (λ o. eqb o.node node) objects
 -- counts within places and limits
 abbrev pub counts_good : World → Bool
 counts_good w =
-    fits w.places.rows most_rows w.rows
-    && (fits w.places.recipients most_recipients w.recipients
-    && (fits w.places.nodes most_nodes w.nodes
-    && (fits w.places.objects most_objects_in_all w.objects
-    && fits w.places.lines most_lines w.lines)))
+    fits (allowed w.places).rows w.rows
+    && (fits (allowed w.places).recipients w.recipients
+    && (fits (allowed w.places).nodes w.nodes
+    && (fits (allowed w.places).objects w.objects
+    && fits (allowed w.places).lines w.lines)))
 
 -- every record is good
 abbrev pub records_good : World → Bool
@@ -76,11 +80,4 @@ records_good w =
 
 -- sound: counts within places and limits, rows that keep the rules, names in use, numbers within limits, and no node with too many objects
 unfoldable pub sound : World → Bool
-sound w =
-    counts_good w
-    && (rows_good w.rows
-    && (list_all recipient_good w.recipients
-    && (list_all node_good w.nodes
-    && (list_all (object_good (in_use w)) w.objects
-    && (list_all (line_good (in_use w)) w.lines
-    && list_all (λ o. leb (crowd o.node w.objects) most_objects) w.objects)))))
+sound w = counts_good w && rows_good w.rows && records_good w && list_all (λ o. leb (crowd o.node w.objects) most_objects) w.objects

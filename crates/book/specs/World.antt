@@ -4,6 +4,7 @@ pub use Rattle.book.specs.declared.tables.Places.{Places}
 pub use Rattle.book.specs.declared.tables.Tables.{Tables}
 use Rattle.std.specs.Prelude.{min, ℤ, pos, vec_items, vec_capacity, Bool, List, [], ℕ, leb, length, get_or}
 use Rattle.tariff.specs.declared.row.Row.{Row}
+use Rattle.book.specs.Limits.{most_rows, most_recipients, most_nodes, most_objects_in_all, most_lines}
 use Rattle.book.specs.Records.{Line, Node, Object, Recipient, Working}
 
 -- the items of a book's tables, and the places that their owner grants; the memory they take is no part of it
@@ -34,6 +35,16 @@ empty p = record { rows = []; recipients = []; nodes = []; objects = []; lines =
 abbrev pub in_use : World → InUse
 in_use w = record { rows = length w.rows; recipients = length w.recipients; nodes = length w.nodes; objects = length w.objects }
 
+-- the places that may be filled: those granted, and no more than a table may have
+abbrev pub allowed : Places → Places
+allowed p = record {
+  rows = min p.rows most_rows;
+  recipients = min p.recipients most_recipients;
+  nodes = min p.nodes most_nodes;
+  objects = min p.objects most_objects_in_all;
+  lines = min p.lines most_lines;
+}
+
 -- the tables' items, and how many of each they have memory for
 pub record Store : Type 0 where
   pub world : World
@@ -52,9 +63,9 @@ store t = record {
   };
 }
 
--- a table is full at the places that its owner grants or at its limit, whichever is less
-abbrev pub full : {A : Type 0} → ℕ → ℕ → List A → Bool
-full places most xs = leb (min places most) (length xs)
+-- a table has no place left
+abbrev pub full : {A : Type 0} → ℕ → List A → Bool
+full places xs = leb places (length xs)
 
 -- the item with this number is not in use
 abbrev pub unused : {A : Type 0} → ℕ → List A → Bool
@@ -86,16 +97,16 @@ balance_of q w = (get_or w.recipients q new_recipient).balance
 
 -- the world with other rows
 abbrev pub with_rows : World → List Row → World
-with_rows w xs = record { rows = xs; recipients = w.recipients; nodes = w.nodes; objects = w.objects; lines = w.lines; places = w.places }
+with_rows w xs = record w { rows = xs }
 
 -- with other recipients
 abbrev pub with_recipients : World → List Recipient → World
-with_recipients w xs = record { rows = w.rows; recipients = xs; nodes = w.nodes; objects = w.objects; lines = w.lines; places = w.places }
+with_recipients w xs = record w { recipients = xs }
 
 -- with other nodes
 abbrev pub with_nodes : World → List Node → World
-with_nodes w xs = record { rows = w.rows; recipients = w.recipients; nodes = xs; objects = w.objects; lines = w.lines; places = w.places }
+with_nodes w xs = record w { nodes = xs }
 
 -- with other objects
 abbrev pub with_objects : World → List Object → World
-with_objects w xs = record { rows = w.rows; recipients = w.recipients; nodes = w.nodes; objects = xs; lines = w.lines; places = w.places }
+with_objects w xs = record w { objects = xs }

@@ -1,6 +1,6 @@
 // The office's and the meter staff's calls at their edges.
 use crate::book::Book;
-use crate::records::Meter;
+use crate::records::{Meter, Terms};
 use crate::tables::Places;
 use sharing::refusal::Refusal;
 use std::alloc::Global;
@@ -40,6 +40,10 @@ fn station(heap: Global, places: Places) -> Result<Book, Refusal> {
     Ok(book)
 }
 
+fn terms(row: usize, power: u64, area: u64) -> Terms {
+    Terms { row, power, area }
+}
+
 #[test]
 fn tables_are_full_at_their_places(rt: HostRuntime) -> Result<(), Fail> {
     let heap = rt.alloc();
@@ -54,7 +58,7 @@ fn tables_are_full_at_their_places(rt: HostRuntime) -> Result<(), Fail> {
     assert_eq!(rt; book.enter_row(Row::Plain(DEAR)), Err(Refusal::Full));
     assert_eq!(rt; book.enter_recipient(), Err(Refusal::Full));
     assert_eq!(rt; book.enter_node(9_999, 0), Err(Refusal::Full));
-    assert_eq!(rt; book.enter_object(0, 0, 0, 0, 0), Err(Refusal::Full));
+    assert_eq!(rt; book.enter_object(0, 0, terms(0, 0, 0)), Err(Refusal::Full));
     let one = Places {
         rows: 1,
         recipients: 1,
@@ -63,11 +67,14 @@ fn tables_are_full_at_their_places(rt: HostRuntime) -> Result<(), Fail> {
         lines: 0,
     };
     let mut book = station(heap, one)?;
-    assert_eq!(rt; book.enter_object(0, 0, 0, 100_000, 1_000_000), Ok(0));
+    assert_eq!(rt;
+        book.enter_object(0, 0, terms(0, 100_000, 1_000_000)),
+        Ok(0)
+    );
     assert_eq!(rt; book.enter_row(Row::Plain(PRICES)), Err(Refusal::Full));
     assert_eq!(rt; book.enter_recipient(), Err(Refusal::Full));
     assert_eq!(rt; book.enter_node(0, 0), Err(Refusal::Full));
-    assert_eq!(rt; book.enter_object(0, 0, 0, 0, 0), Err(Refusal::Full));
+    assert_eq!(rt; book.enter_object(0, 0, terms(0, 0, 0)), Err(Refusal::Full));
     assert_eq!(rt; book.tables().objects.len(), 1);
     Ok(())
 }
@@ -80,12 +87,12 @@ fn given_numbers_have_limits(rt: HostRuntime) -> Result<(), Fail> {
     let far = 1_000_000_000_000;
     assert_eq!(rt; book.enter_node(0, far + 1), Err(Refusal::OutOfRange));
     assert_eq!(rt; book.enter_node(1_200, far), Ok(1));
-    let refused = book.enter_object(0, 0, 0, 100_001, 0);
+    let refused = book.enter_object(0, 0, terms(0, 100_001, 0));
     assert_eq!(rt; refused, Err(Refusal::OutOfRange));
-    let refused = book.enter_object(0, 0, 0, 0, 1_000_001);
+    let refused = book.enter_object(0, 0, terms(0, 0, 1_000_001));
     assert_eq!(rt; refused, Err(Refusal::OutOfRange));
-    assert_eq!(rt; book.enter_object(1, 0, 0, 7, 8), Ok(0));
-    let refused = book.change_object(0, 0, 100_001, 0);
+    assert_eq!(rt; book.enter_object(1, 0, terms(0, 7, 8)), Ok(0));
+    let refused = book.change_object(0, terms(0, 100_001, 0));
     assert_eq!(rt; refused, Err(Refusal::OutOfRange));
     let refused = book.report_fault(1, far + 1);
     assert_eq!(rt; refused, Err(Refusal::OutOfRange));
@@ -98,10 +105,10 @@ fn given_numbers_have_limits(rt: HostRuntime) -> Result<(), Fail> {
 fn unknown_numbers_come_first(rt: HostRuntime) -> Result<(), Fail> {
     let mut book = station(rt.alloc(), PLACES)?;
     for (node, recipient, row) in [(1, 0, 0), (0, 1, 0), (0, 0, 1)] {
-        let refused = book.enter_object(node, recipient, row, 100_001, 0);
+        let refused = book.enter_object(node, recipient, terms(row, 100_001, 0));
         assert_eq!(rt; refused, Err(Refusal::Unknown));
     }
-    let refused = book.change_object(0, 0, 100_001, 0);
+    let refused = book.change_object(0, terms(0, 100_001, 0));
     assert_eq!(rt; refused, Err(Refusal::Unknown));
     assert_eq!(rt; book.report_fault(1, u64::MAX), Err(Refusal::Unknown));
     assert_eq!(rt; book.repair(1, u64::MAX), Err(Refusal::Unknown));
@@ -115,9 +122,12 @@ fn a_change_keeps_node_and_recipient(rt: HostRuntime) -> Result<(), Fail> {
     let mut book = station(rt.alloc(), PLACES)?;
     assert_eq!(rt; book.enter_recipient(), Ok(1));
     assert_eq!(rt; book.enter_row(Row::Plain(PRICES)), Ok(1));
-    assert_eq!(rt; book.enter_object(0, 1, 0, 7, 8), Ok(0));
-    assert_eq!(rt; book.change_object(0, 2, 9, 10), Err(Refusal::Unknown));
-    assert_eq!(rt; book.change_object(0, 1, 9, 10), Ok(()));
+    assert_eq!(rt; book.enter_object(0, 1, terms(0, 7, 8)), Ok(0));
+    assert_eq!(rt;
+        book.change_object(0, terms(2, 9, 10)),
+        Err(Refusal::Unknown)
+    );
+    assert_eq!(rt; book.change_object(0, terms(1, 9, 10)), Ok(()));
     let objects = &book.tables().objects;
     assert!(rt; objects.len() == 1);
     let object = objects[0];
@@ -134,10 +144,13 @@ fn a_node_takes_64_objects(rt: HostRuntime) -> Result<(), Fail> {
     let mut book = station(rt.alloc(), PLACES)?;
     assert_eq!(rt; book.enter_node(0, 0), Ok(1));
     for number in 0..64 {
-        assert_eq!(rt; book.enter_object(0, 0, 0, 1, 1), Ok(number));
+        assert_eq!(rt; book.enter_object(0, 0, terms(0, 1, 1)), Ok(number));
     }
-    assert_eq!(rt; book.enter_object(0, 0, 0, 1, 1), Err(Refusal::NodeFull));
-    assert_eq!(rt; book.enter_object(1, 0, 0, 1, 1), Ok(64));
+    assert_eq!(rt;
+        book.enter_object(0, 0, terms(0, 1, 1)),
+        Err(Refusal::NodeFull)
+    );
+    assert_eq!(rt; book.enter_object(1, 0, terms(0, 1, 1)), Ok(64));
     Ok(())
 }
 

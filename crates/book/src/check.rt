@@ -3,15 +3,13 @@ ghost use Rattle.std.specs.Prelude.{◌≡◌, Bool, true, nat_le, nat_lt};
 ghost use Rattle.std.specs.List.{list_all};
 ghost use Rattle.sharing.specs.Limits.{most_objects};
 ghost use Rattle.book.specs.Limits.{most_nodes};
+ghost use Rattle.book.specs.Records.{amounts_in};
 ghost use Rattle.book.specs.Sound.{amount_good, balance_good, counts_good, crowd, line_good, names_good, node_good, numbers_good, object_good, recipient_good, records_good, sound};
 ghost use Rattle.book.specs.World.{in_use, world};
 ghost use Rattle.book.specs.declared.tables.InUse.{InUse};
 
-use crate::limits::{
-    MONTHS, MOST_AMOUNT, MOST_BALANCE, MOST_EVENTS, MOST_LINES, MOST_NODES, MOST_OBJECTS,
-    MOST_RECIPIENTS, MOST_REGISTER, MOST_ROWS,
-};
-use crate::records::{Kind, Line, Node, Object, Recipient};
+use crate::limits::{MONTHS, MOST_AMOUNT, MOST_BALANCE, MOST_EVENTS, MOST_NODES, MOST_REGISTER};
+use crate::records::{Amounts, Line, Node, Object, Recipient};
 use crate::tables::{InUse, Tables};
 use sharing::limits::{MOST_AREA, MOST_OBJECTS as MOST_BEHIND_NODE, MOST_POWER, MOST_QUANTITY};
 use tariff::rules::keep_rules;
@@ -59,7 +57,7 @@ impl Stored for Line {
     ghost good = { line_good };
 
     fn is_good(&self, used: InUse) -> bool {
-        self.names_used(used) && self.numbers_within() && all_good(&self.amounts.list(), used)
+        self.names_used(used) && self.numbers_within() && self.amounts.within()
     }
 }
 
@@ -68,15 +66,9 @@ impl Line {
     fn names_used(&self, used: InUse) -> bool
         ensures { result ≡ names_good used self.now }
     {
-        if self.recipient >= used.recipients {
-            return false;
-        }
-        match self.kind {
-            Kind::Month | Kind::Correction => {
-                self.node < used.nodes && self.object < used.objects && self.row < used.rows
-            }
-            Kind::Discount | Kind::Extra | Kind::Payment => true,
-        }
+        self.recipient < used.recipients
+            && (!self.kind.is_of_a_month()
+                || (self.node < used.nodes && self.object < used.objects && self.row < used.rows))
     }
 
     fn numbers_within(&self) -> bool
@@ -90,107 +82,93 @@ impl Line {
     }
 }
 
-impl Stored for i64 {
-    ghost good = { λ _ z. amount_good z };
-
-    fn is_good(&self, _used: InUse) -> bool {
-        is_amount(*self)
+impl Amounts {
+    // Whether each is within its limit.
+    fn within(&self) -> bool
+        ensures { result ≡ list_all amount_good (amounts_in self.now) }
+    {
+        self.list().iter().all(|amount| is_amount(*amount))
     }
 }
 
+// Whether an amount, or a heat, is within its limit.
 fn is_amount(amount: i64) -> bool
     ensures { result ≡ amount_good amount }
 {
-    -MOST_AMOUNT <= amount && amount <= MOST_AMOUNT
+    (-MOST_AMOUNT..=MOST_AMOUNT).contains(&amount)
 }
 
-// Whether a balance is within its limit.
+// Whether a balance is within its limit; the limit as a parameter would have to be turned into its negative first.
 pub fn is_balance(balance: i64) -> bool
     ensures { result ≡ balance_good balance }
 {
-    -MOST_BALANCE <= balance && balance <= MOST_BALANCE
+    (-MOST_BALANCE..=MOST_BALANCE).contains(&balance)
 }
 
 // Whether every record of a table is good.
 fn all_good<T: Stored>(items: &[T], used: InUse) -> bool
     ensures { result ≡ list_all (T.good used) items.now }
 {
-    for item in items {
-        if !item.is_good(used) {
-            return false;
-        }
-    }
-    true
+    items.iter().all(|item| item.is_good(used))
 }
 
 // Whether every line is good among what the tables have in use.
 pub fn lines_good(tables: &Tables, lines: &[Line]) -> bool
     ensures { result ≡ list_all (line_good (in_use (world tables.now))) lines.now }
 {
-    all_good(lines, in_use(tables))
+    all_good(lines, tables.in_use())
 }
 
 // Whether no node has more objects than it may have: they are counted node by node in one pass.
+#[tactic(auto, using(crate::proofs::Crowds::node_low))]
 fn not_crowded(objects: &[Object]) -> bool
     requires { list_all (λ o. nat_lt o.node most_nodes) objects.now ≡ true }
     ensures { result ≡ list_all (λ o. nat_le (crowd o.node objects.now) most_objects) objects.now }
 {
+    // a chain over `crowd_of` would not be one pass: it counts all objects for each
     let mut counts = [0usize; MOST_NODES];
     for object in objects {
-        let count = counts[object.node];
-        if count >= MOST_BEHIND_NODE {
+        let count = &mut counts[object.node];
+        if *count >= MOST_BEHIND_NODE {
             return false;
         }
-        counts[object.node] = count + 1;
+        *count += 1;
     }
     true
 }
 
-pub(crate) fn is_sound(tables: &Tables) -> bool
-    ensures { result ≡ sound (world tables.now) }
-{
-    if !counts_within(tables) {
-        return false;
+impl Tables {
+    // Whether the tables are sound.
+    #[tactic(auto, unfolding(crate::specs::Sound::sound))]
+    pub(crate) fn is_sound(&self) -> bool
+        ensures { result ≡ sound (world self.now) }
+    {
+        self.counts_within()
+            && keep_rules(&self.rows)
+            && self.records_good()
+            && not_crowded(&self.objects)
     }
-    if !keep_rules(&tables.rows) {
-        return false;
-    }
-    if !records_good(tables) {
-        return false;
-    }
-    not_crowded(&tables.objects)
-}
 
-// Whether every record is good.
-fn records_good(tables: &Tables) -> bool
-    ensures { result ≡ records_good (world tables.now) }
-{
-    let used = in_use(tables);
-    all_good(&tables.recipients, used)
-        && all_good(&tables.nodes, used)
-        && all_good(&tables.objects, used)
-        && all_good(&tables.lines, used)
-}
-
-fn in_use(tables: &Tables) -> InUse
-    ensures { result ≡ in_use (world tables.now) }
-{
-    InUse {
-        rows: tables.rows.len(),
-        recipients: tables.recipients.len(),
-        nodes: tables.nodes.len(),
-        objects: tables.objects.len(),
+    // Whether no table holds more than its owner grants and than it may.
+    fn counts_within(&self) -> bool
+        ensures { result ≡ counts_good (world self.now) }
+    {
+        let most = self.places.allowed();
+        self.rows.len() <= most.rows
+            && self.recipients.len() <= most.recipients
+            && self.nodes.len() <= most.nodes
+            && self.objects.len() <= most.objects
+            && self.lines.len() <= most.lines
     }
-}
 
-// Whether no table holds more than its owner grants and than it may.
-fn counts_within(tables: &Tables) -> bool
-    ensures { result ≡ counts_good (world tables.now) }
-{
-    let places = tables.places;
-    tables.rows.len() <= places.rows.min(MOST_ROWS)
-        && tables.recipients.len() <= places.recipients.min(MOST_RECIPIENTS)
-        && tables.nodes.len() <= places.nodes.min(MOST_NODES)
-        && tables.objects.len() <= places.objects.min(MOST_OBJECTS)
-        && tables.lines.len() <= places.lines.min(MOST_LINES)
+    // Whether every record is good.
+    fn records_good(&self) -> bool
+        ensures { result ≡ records_good (world self.now) }
+    {
+        let used = self.in_use();
+        all_good(&self.recipients, used)
+            && all_good(&self.nodes, used)
+            && all_good(&self.objects, used)
+            && all_good(&self.lines, used)
+    }
 }

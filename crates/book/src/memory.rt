@@ -1,38 +1,33 @@
 // Memory for the places of the tables.
-ghost use Rattle.std.specs.Prelude.{◌≡◌, ◌<◌, ◌≤◌, true, false, vec_capacity};
+ghost use Rattle.std.specs.Prelude.{◌≡◌, ◌<◌, ◌≤◌, MatchResult, vec_capacity};
+ghost use Rattle.sharing.specs.declared.refusal.Refusal.TheVariants.{Memory};
 ghost use Rattle.book.specs.Calls.{Provided};
 ghost use Rattle.book.specs.World.{store};
 
-use crate::limits::{MOST_LINES, MOST_NODES, MOST_OBJECTS, MOST_RECIPIENTS, MOST_ROWS};
-use crate::tables::Tables;
+use crate::book::Book;
 use sharing::refusal::Refusal;
 
-// Whether the table has, or got, memory for so many items.
-fn makes_room<T>(table: &mut Vec<T>, places: usize) -> bool
+// The table has, or gets, memory for so many items.
+fn make_room<T>(table: &mut Vec<T>, places: usize) -> Result<(), Refusal>
     ensures items { table.new.items ≡ table.old.items }
     ensures kept { vec_capacity table.old ≤ vec_capacity table.new }
-    ensures enough { result ≡ true → places ≤ vec_capacity table.new }
-    ensures short { result ≡ false → vec_capacity table.old < places }
+    ensures cases { MatchResult result (λ _. places ≤ vec_capacity table.new) (λ e. (e ≡ Memory) × (vec_capacity table.old < places)) }
 {
-    let used = table.len();
-    if places <= used {
-        return true;
-    }
-    table.reserve_exact(places - used).is_ok()
+    let more = places.saturating_sub(table.len());
+    table.reserve_exact(more).map_err(|_| Refusal::Memory)
 }
 
-// Memory for every place that the owner grants and the table may have.
-pub(crate) fn reserve(tables: &mut Tables) -> Result<(), Refusal>
-    ensures { Provided (store tables.old) (store tables.new) result }
-{
-    let places = tables.places;
-    let enough = makes_room(&mut tables.rows, places.rows.min(MOST_ROWS))
-        && makes_room(
-            &mut tables.recipients,
-            places.recipients.min(MOST_RECIPIENTS),
-        )
-        && makes_room(&mut tables.nodes, places.nodes.min(MOST_NODES))
-        && makes_room(&mut tables.objects, places.objects.min(MOST_OBJECTS))
-        && makes_room(&mut tables.lines, places.lines.min(MOST_LINES));
-    if enough { Ok(()) } else { Err(Refusal::Memory) }
+impl Book {
+    // Gets memory for every place granted, so that no later call wants any for the tables.
+    pub fn reserve(&mut self) -> Result<(), Refusal>
+        ensures { Provided (store self.old.tables) (store self.new.tables) result }
+    {
+        let tables = &mut self.tables;
+        let places = tables.places.allowed();
+        make_room(&mut tables.rows, places.rows)?;
+        make_room(&mut tables.recipients, places.recipients)?;
+        make_room(&mut tables.nodes, places.nodes)?;
+        make_room(&mut tables.objects, places.objects)?;
+        make_room(&mut tables.lines, places.lines)
+    }
 }

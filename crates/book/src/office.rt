@@ -1,191 +1,164 @@
-// The office's calls, over plain tables.
-ghost use Rattle.std.specs.Prelude.{◌≡◌, true};
-ghost use Rattle.sharing.specs.Refusals.{refusal};
+// The office's calls.
+ghost use Rattle.std.specs.Prelude.{◌≡◌, ◌||◌, [], ◌∷◌, leb, length, ltb};
+ghost use Rattle.sharing.specs.Limits.{most_area, most_power};
+ghost use Rattle.sharing.specs.Refusals.{decided};
+ghost use Rattle.sharing.specs.declared.refusal.Refusal.TheVariants.{Full, OutOfRange};
 ghost use Rattle.book.specs.Calls.{Added, Outcome, Sure};
-ghost use Rattle.book.specs.Office.{change_entry, node_entry, object_entry, recipient_entry, row_entry};
-ghost use Rattle.book.specs.Sound.{crowd, sound};
-ghost use Rattle.book.specs.World.{store, world};
+ghost use Rattle.book.specs.Office.{change_entry, node_entry, object_entry, object_on, recipient_entry, row_entry};
+ghost use Rattle.book.specs.Sound.{crowd};
+ghost use Rattle.book.specs.World.{new_node, store, world};
 
-use crate::limits::{MONTHS, MOST_NODES, MOST_OBJECTS, MOST_RECIPIENTS, MOST_REGISTER, MOST_ROWS};
-use crate::records::{Meter, Node, Object, Recipient};
+use crate::book::Book;
+use crate::limits::{MONTHS, MOST_REGISTER};
+use crate::records::{Meter, Node, Object, Recipient, Terms};
 use crate::tables::Tables;
 use sharing::limits::{MOST_AREA, MOST_OBJECTS as MOST_BEHIND_NODE, MOST_POWER};
 use sharing::refusal::Refusal;
 use tariff::row::Row;
 use tariff::rows::Rows;
 
+// Refuses a table that has no place left.
+fn not_full<T>(table: &[T], places: usize) -> Result<(), Refusal>
+    ensures { result ≡ decided ((leb places (length table.now), Full) ∷ []) tt }
+{
+    if table.len() < places {
+        Ok(())
+    } else {
+        Err(Refusal::Full)
+    }
+}
+
 // One item more and its number, or want of memory with the table as it was.
 fn add<T: Copy>(table: &mut Vec<T>, item: T) -> Result<usize, Refusal>
     ensures { Added table.old item table.new result }
 {
     let number = table.len();
-    match table.push(item) {
-        Ok(()) => Ok(number),
-        Err(_) => Err(Refusal::Memory),
-    }
-}
-
-fn row_refusal(tables: &Tables, row: &Row) -> Option<Refusal>
-    requires { sound (world tables.now) ≡ true }
-    ensures { result ≡ refusal (row_entry row.now (world tables.now)).why }
-{
-    if tables.rows.len() >= tables.places.rows.min(MOST_ROWS) {
-        return Some(Refusal::Full);
-    }
-    let rows = Rows { rows: &tables.rows };
-    match rows.check(row) {
-        Ok(()) => None,
-        Err(refusal) => Some(refusal),
-    }
-}
-
-pub(crate) fn enter_row(tables: &mut Tables, row: Row) -> Result<usize, Refusal>
-    requires { sound (world tables.old) ≡ true }
-    ensures { Outcome (row_entry row) (store tables.old) (store tables.new) result }
-{
-    if let Some(refusal) = row_refusal(tables, &row) {
-        return Err(refusal);
-    }
-    add(&mut tables.rows, row)
-}
-
-pub(crate) fn enter_recipient(tables: &mut Tables) -> Result<usize, Refusal>
-    ensures { Outcome recipient_entry (store tables.old) (store tables.new) result }
-{
-    if tables.recipients.len() >= tables.places.recipients.min(MOST_RECIPIENTS) {
-        return Err(Refusal::Full);
-    }
-    add(&mut tables.recipients, Recipient { balance: 0 })
-}
-
-fn node_refusal(tables: &Tables, month: u64, register: u64) -> Option<Refusal>
-    ensures { result ≡ refusal (node_entry month register (world tables.now)).why }
-{
-    if tables.nodes.len() >= tables.places.nodes.min(MOST_NODES) {
-        return Some(Refusal::Full);
-    }
-    if month > u64::from(MONTHS) || register > MOST_REGISTER {
-        return Some(Refusal::OutOfRange);
-    }
-    None
-}
-
-pub(crate) fn enter_node(tables: &mut Tables, month: u64, register: u64) -> Result<usize, Refusal>
-    ensures { Outcome (node_entry month register) (store tables.old) (store tables.new) result }
-{
-    if let Some(refusal) = node_refusal(tables, month, register) {
-        return Err(refusal);
-    }
-    let node = Node {
-        month: month as u16,
-        register,
-        carried: 0,
-        events: 0,
-        meter: Meter::Working,
-    };
-    add(&mut tables.nodes, node)
+    table.push(item).map_err(|_| Refusal::Memory)?;
+    Ok(number)
 }
 
 // How many objects the node has.
 fn crowd_of(objects: &[Object], node: usize) -> usize
     ensures { result ≡ crowd node objects.now }
 {
-    let mut count: usize = 0;
-    for object in objects {
-        if object.node == node {
-            count += 1;
-        }
-    }
-    count
+    objects.iter().filter(|object| object.node == node).count()
 }
 
-fn object_refusal(
-    tables: &Tables,
-    node: usize,
-    recipient: usize,
-    row: usize,
-    power: u64,
-    area: u64,
-) -> Option<Refusal>
-    ensures { result ≡ refusal (object_entry (record { node = node; recipient = recipient; row = row; power = power; area = area }) (world tables.now)).why }
-{
-    if tables.objects.len() >= tables.places.objects.min(MOST_OBJECTS) {
-        return Some(Refusal::Full);
-    }
-    if node >= tables.nodes.len()
-        || recipient >= tables.recipients.len()
-        || row >= tables.rows.len()
+impl Terms {
+    // An object on these terms; a struct of node and recipient would be an object without them.
+    fn object(self, node: usize, recipient: usize) -> Result<Object, Refusal>
+        ensures { result ≡ decided ((ltb most_power self.power || ltb most_area self.area, OutOfRange) ∷ []) (object_on node recipient self) }
     {
-        return Some(Refusal::Unknown);
+        if self.power > u64::from(MOST_POWER) || self.area > u64::from(MOST_AREA) {
+            return Err(Refusal::OutOfRange);
+        }
+        Ok(Object {
+            node,
+            recipient,
+            row: self.row,
+            power: self.power as u32,
+            area: self.area as u32,
+        })
     }
-    if power > u64::from(MOST_POWER) || area > u64::from(MOST_AREA) {
-        return Some(Refusal::OutOfRange);
-    }
-    if crowd_of(&tables.objects, node) >= MOST_BEHIND_NODE {
-        return Some(Refusal::NodeFull);
-    }
-    None
 }
 
-pub(crate) fn enter_object(
-    tables: &mut Tables,
-    node: usize,
-    recipient: usize,
-    row: usize,
-    power: u64,
-    area: u64,
-) -> Result<usize, Refusal>
-    ensures { Outcome (object_entry (record { node = node; recipient = recipient; row = row; power = power; area = area })) (store tables.old) (store tables.new) result }
-{
-    if let Some(refusal) = object_refusal(tables, node, recipient, row, power, area) {
-        return Err(refusal);
+impl Tables {
+    // The node to be entered.
+    fn new_node(&self, month: u64, register: u64) -> Result<Node, Refusal>
+        ensures { result ≡ decided (node_entry month register (world self.now)).why (new_node month register) }
+    {
+        not_full(&self.nodes, self.places.allowed().nodes)?;
+        if month > u64::from(MONTHS) || register > MOST_REGISTER {
+            return Err(Refusal::OutOfRange);
+        }
+        Ok(Node {
+            month: month as u16,
+            register,
+            carried: 0,
+            events: 0,
+            meter: Meter::Working,
+        })
     }
-    let object = Object {
-        node,
-        recipient,
-        row,
-        power: power as u32,
-        area: area as u32,
-    };
-    add(&mut tables.objects, object)
+
+    // The object to be entered.
+    fn new_object(&self, node: usize, recipient: usize, terms: Terms) -> Result<Object, Refusal>
+        ensures { let object = object_on node recipient terms in result ≡ decided (object_entry object (world self.now)).why object }
+    {
+        not_full(&self.objects, self.places.allowed().objects)?;
+        if node >= self.nodes.len()
+            || recipient >= self.recipients.len()
+            || terms.row >= self.rows.len()
+        {
+            return Err(Refusal::Unknown);
+        }
+        let object = terms.object(node, recipient)?;
+        if crowd_of(&self.objects, node) >= MOST_BEHIND_NODE {
+            return Err(Refusal::NodeFull);
+        }
+        Ok(object)
+    }
 }
 
-fn change_refusal(
-    tables: &Tables,
-    object: usize,
-    row: usize,
-    power: u64,
-    area: u64,
-) -> Option<Refusal>
-    ensures { result ≡ refusal (change_entry object row power area (world tables.now)).why }
-{
-    if object >= tables.objects.len() || row >= tables.rows.len() {
-        return Some(Refusal::Unknown);
+impl Book {
+    // Whether a row may be entered.
+    #[tactic(auto, unfolding(crate::specs::Sound::sound))]
+    fn check_row(&self, row: &Row) -> Result<(), Refusal>
+        ensures { result ≡ decided (row_entry row.now (world self.now.tables)).why tt }
+    {
+        let tables = &self.tables;
+        not_full(&tables.rows, tables.places.allowed().rows)?;
+        let rows = Rows { rows: &tables.rows };
+        rows.check(row)
     }
-    if power > u64::from(MOST_POWER) || area > u64::from(MOST_AREA) {
-        return Some(Refusal::OutOfRange);
-    }
-    None
-}
 
-pub(crate) fn change_object(
-    tables: &mut Tables,
-    object: usize,
-    row: usize,
-    power: u64,
-    area: u64,
-) -> Result<(), Refusal>
-    ensures { Sure (change_entry object row power area) (store tables.old) (store tables.new) result }
-{
-    if let Some(refusal) = change_refusal(tables, object, row, power, area) {
-        return Err(refusal);
+    // Enters a row above those in use, and answers its number.
+    pub fn enter_row(&mut self, row: Row) -> Result<usize, Refusal>
+        ensures { Outcome (row_entry row) (store self.old.tables) (store self.new.tables) result }
+    {
+        self.check_row(&row)?;
+        add(&mut self.tables.rows, row)
     }
-    let old = tables.objects[object];
-    tables.objects[object] = Object {
-        row,
-        power: power as u32,
-        area: area as u32,
-        ..old
-    };
-    Ok(())
+
+    // Enters a recipient with the balance 0, and answers its number.
+    pub fn enter_recipient(&mut self) -> Result<usize, Refusal>
+        ensures { Outcome recipient_entry (store self.old.tables) (store self.new.tables) result }
+    {
+        let tables = &mut self.tables;
+        not_full(&tables.recipients, tables.places.allowed().recipients)?;
+        add(&mut tables.recipients, Recipient { balance: 0 })
+    }
+
+    // Enters a node whose meter works, and answers its number.
+    pub fn enter_node(&mut self, month: u64, register: u64) -> Result<usize, Refusal>
+        ensures { Outcome (node_entry month register) (store self.old.tables) (store self.new.tables) result }
+    {
+        let node = self.tables.new_node(month, register)?;
+        add(&mut self.tables.nodes, node)
+    }
+
+    // Enters an object behind a node, and answers its number.
+    pub fn enter_object(
+        &mut self,
+        node: usize,
+        recipient: usize,
+        terms: Terms,
+    ) -> Result<usize, Refusal>
+        ensures { Outcome (object_entry (object_on node recipient terms)) (store self.old.tables) (store self.new.tables) result }
+    {
+        let object = self.tables.new_object(node, recipient, terms)?;
+        add(&mut self.tables.objects, object)
+    }
+
+    // Puts an object on other terms for months not yet posted.
+    pub fn change_object(&mut self, object: usize, terms: Terms) -> Result<(), Refusal>
+        ensures { Sure (change_entry object terms.row terms.power terms.area) (store self.old.tables) (store self.new.tables) result }
+    {
+        let tables = &mut self.tables;
+        if object >= tables.objects.len() || terms.row >= tables.rows.len() {
+            return Err(Refusal::Unknown);
+        }
+        let old = tables.objects[object];
+        tables.objects[object] = terms.object(old.node, old.recipient)?;
+        Ok(())
+    }
 }

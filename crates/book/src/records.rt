@@ -1,6 +1,9 @@
 // What the tables hold. Items are numbered from 0 as they were entered.
-ghost use Rattle.std.specs.Prelude.{◌≡◌};
-ghost use Rattle.book.specs.Records.{amounts_in, kind_number};
+ghost use Rattle.std.specs.Prelude.{◌≡◌, Some};
+ghost use Rattle.book.specs.Records.{amounts_in, kind_number, meter_word};
+ghost use Rattle.book.specs.Sound.{of_a_month};
+
+use std::fmt;
 
 #[derive(Clone, Copy, Debug, PartialEq, Eq)]
 pub struct Recipient {
@@ -12,6 +15,17 @@ pub struct Recipient {
 pub enum Meter {
     Working,
     Faulted,
+}
+
+impl fmt::Display for Meter {
+    ghost output = { λ m. Some (meter_word m) };
+
+    fn fmt<W: fmt::Write>(&self, f: &mut fmt::Formatter<W>) -> fmt::Result {
+        match self {
+            Meter::Working => f.write_str("working"),
+            Meter::Faulted => f.write_str("faulted"),
+        }
+    }
 }
 
 // What the meter staff reports of a meter.
@@ -47,9 +61,20 @@ pub struct Object {
     pub area: u32,
 }
 
-// What a journal line is of, by its number.
+// What an object is charged by, as it is given.
 #[derive(Clone, Copy, Debug, PartialEq, Eq)]
+pub struct Terms {
+    pub row: usize,
+    // kW
+    pub power: u64,
+    // m²
+    pub area: u64,
+}
+
+// What a journal line is of, by its number.
+#[derive(Clone, Copy, Debug, Default, PartialEq, Eq)]
 pub enum Kind {
+    #[default]
     Month = 1,
     Correction = 2,
     Discount = 3,
@@ -58,15 +83,23 @@ pub enum Kind {
 }
 
 impl Kind {
+    // The number under which it is listed; `u8::from(kind)` would not say that.
     pub fn number(self) -> u8
         ensures { result ≡ kind_number self }
     {
         self as u8
     }
+
+    // Whether a line of it is of a month, or corrects one.
+    pub(crate) fn is_of_a_month(self) -> bool
+        ensures { result ≡ of_a_month self }
+    {
+        matches!(self, Kind::Month | Kind::Correction)
+    }
 }
 
 // The amounts of a line, grosz.
-#[derive(Clone, Copy, Debug, PartialEq, Eq)]
+#[derive(Clone, Copy, Debug, Default, PartialEq, Eq)]
 pub struct Amounts {
     pub power: i64,
     pub fixed: i64,
@@ -93,7 +126,7 @@ impl Amounts {
 }
 
 // A journal line.
-#[derive(Clone, Copy, Debug, PartialEq, Eq)]
+#[derive(Clone, Copy, Debug, Default, PartialEq, Eq)]
 pub struct Line {
     pub kind: Kind,
     pub node: usize,

@@ -87,10 +87,7 @@ fn stored(
 }
 
 fn opens(tables: Tables) -> bool {
-    match Book::from_tables(tables) {
-        Ok(_) => true,
-        Err(_) => false,
-    }
+    Book::from_tables(tables).is_ok()
 }
 
 #[test]
@@ -245,10 +242,10 @@ fn counts_past_their_places_are_refused_and_given_back(rt: HostRuntime) -> Resul
     tables.places = Places { lines: 0, ..PLACES };
     match Book::from_tables(tables) {
         Ok(_) => Err(Fail::new("accepted")),
-        Err((tables, refusal)) => {
-            assert_eq!(rt; refusal, Refusal::Unsound);
-            assert_eq!(rt; tables.lines.len(), 1);
-            assert_eq!(rt; tables.places.lines, 0);
+        Err(refused) => {
+            assert_eq!(rt; refused.refusal, Refusal::Unsound);
+            assert_eq!(rt; refused.given.lines.len(), 1);
+            assert_eq!(rt; refused.given.places.lines, 0);
             Ok(())
         }
     }

@@ -6,6 +6,7 @@ mod show;
 use agreement::call::{Answer, Call};
 use agreement::desk::Desk;
 use agreement::run::run;
+use book::records::Terms;
 use book::tables::Places;
 use rows::{MIXED, PLAIN};
 use sharing::key::ByPower;
@@ -51,22 +52,25 @@ fn calls() -> [Call<ByPower, Nearest>; COUNT] {
 }
 
 fn object_of(recipient: usize) -> Call<ByPower, Nearest> {
-    Call::EnterObject {
-        node: 0,
-        recipient,
+    let terms = Terms {
         row: 0,
         power: 100,
         area: 0,
+    };
+    Call::EnterObject {
+        node: 0,
+        recipient,
+        terms,
     }
 }
 
 fn changed_to(power: u64) -> Call<ByPower, Nearest> {
-    Call::ChangeObject {
-        object: 2,
+    let terms = Terms {
         row: 2,
         power,
         area: 0,
-    }
+    };
+    Call::ChangeObject { object: 2, terms }
 }
 
 fn fault_at(register: u64) -> Call<ByPower, Nearest> {
@@ -84,7 +88,7 @@ fn main(rt: HostRuntime) -> anyhow::Result<()> {
 // Makes the calls and prints each with its answer, and then what the node holds.
 fn make(rt: &HostRuntime) -> anyhow::Result<()> {
     let calls = calls();
-    let mut answers = [Answer::Done; COUNT];
+    let mut answers = [Ok(Answer::Done); COUNT];
     let desk = run(Desk::new(rt.alloc(), PLACES), &calls, &mut answers);
     println!(rt; "calls on a new book:")?;
     for (call, answer) in calls.iter().zip(answers.iter()) {

@@ -1,12 +1,13 @@
 // Calls, answers and nodes in words.
-use agreement::call::{Answer, Call};
+use agreement::call::{Answer, Call, Failure};
 use book::book::Book;
-use book::records::Meter;
+use book::records::{Node, Terms};
 use sharing::key::ByPower;
 use sharing::rounding::Nearest;
 use std::io;
 use tariff::row::Row;
 
+// What a call asks, in the words of this program alone.
 pub fn call(rt: &HostRuntime, call: &Call<ByPower, Nearest>) -> io::Result<()> {
     match call {
         Call::EnterRow { row } => match row {
@@ -20,18 +21,15 @@ pub fn call(rt: &HostRuntime, call: &Call<ByPower, Nearest>) -> io::Result<()> {
         Call::EnterObject {
             node,
             recipient,
-            row,
-            power,
-            area,
-        } => print!(rt;
-            "  enter an object of node {node}, recipient {recipient}, row {row}, {power} kW, {area} m2: "
-        ),
-        Call::ChangeObject {
-            object,
-            row,
-            power,
-            area,
-        } => print!(rt; "  change object {object} to row {row}, {power} kW, {area} m2: "),
+            terms,
+        } => {
+            print!(rt; "  enter an object of node {node}, recipient {recipient}, ")?;
+            show_terms(rt, terms)
+        }
+        Call::ChangeObject { object, terms } => {
+            print!(rt; "  change object {object} to ")?;
+            show_terms(rt, terms)
+        }
         Call::ReportFault { node, register } => {
             print!(rt; "  report a fault of node {node} at register {register}: ")
         }
@@ -45,35 +43,34 @@ pub fn call(rt: &HostRuntime, call: &Call<ByPower, Nearest>) -> io::Result<()> {
     }
 }
 
-pub fn answer(rt: &HostRuntime, answer: &Answer) -> io::Result<()> {
+fn show_terms(rt: &HostRuntime, terms: &Terms) -> io::Result<()> {
+    let Terms { row, power, area } = *terms;
+    print!(rt; "row {row}, {power} kW, {area} m2: ")
+}
+
+pub fn answer(rt: &HostRuntime, answer: &Result<Answer, Failure>) -> io::Result<()> {
     match answer {
-        Answer::Refused(refusal) => {
-            let number = refusal.number();
-            let meaning = refusal.meaning();
-            println!(rt; "refused with {number}, {meaning}")
+        Ok(Answer::Done) => println!(rt; "done"),
+        Ok(Answer::Entered(number)) => println!(rt; "entered as {number}"),
+        Ok(Answer::Opened(number)) => println!(rt; "opened as paper {number}"),
+        Ok(Answer::Fixed(heat)) => println!(rt; "fixed at {heat} MJ"),
+        Ok(Answer::Imported(end)) => println!(rt; "imported {} lines", end.taken),
+        Err(Failure::Refused(refusal)) => {
+            println!(rt; "refused with {}, {refusal}", refusal.number())
         }
-        Answer::Done => println!(rt; "done"),
-        Answer::NoPaper => println!(rt; "no such paper"),
-        Answer::Entered(number) => println!(rt; "entered as {number}"),
-        Answer::Opened(number) => println!(rt; "opened as paper {number}"),
-        Answer::Fixed(heat) => println!(rt; "fixed at {heat} MJ"),
-        Answer::Imported(end) => {
-            let taken = end.taken;
-            println!(rt; "imported {taken} lines")
-        }
+        Err(Failure::NoPaper) => println!(rt; "no such paper"),
     }
 }
 
 pub fn nodes(rt: &HostRuntime, book: &Book) -> io::Result<()> {
     for (number, node) in book.tables().nodes.iter().enumerate() {
-        let month = node.month;
-        let register = node.register;
-        let carried = node.carried;
-        let events = node.events;
-        let meter = match node.meter {
-            Meter::Working => "working",
-            Meter::Faulted => "faulted",
-        };
+        let Node {
+            month,
+            register,
+            carried,
+            events,
+            meter,
+        } = *node;
         println!(rt;
             "  node {number}: month {month}, register {register}, carried {carried} MJ, {events} events, meter {meter}"
         )?;

@@ -1,6 +1,6 @@
 -- Why a month's heat is refused, and that it is within its limit otherwise.
-use Rattle.std.proofs.Common.{◌≡◌, ℕ, ◌+◌, ◌≤◌, sym, refl, ap, ◌∙◌, subst, arith, Bool, true, false, not, ◌||◌, List, [], ◌∷◌, leb, ltb, Option, Some, None, Ok, Err}
-use Rattle.std.proofs.lemmas.Bool.{and_from, and_parts, cond-false, cond-true, false≢true, le-leb, leb-true, lt-ltb, ltb-false, ltb-true, not_from_false, or_parts}
+use Rattle.std.proofs.Common.{◌≡◌, ℕ, ◌+◌, ◌≤◌, sym, refl, ap, ◌∙◌, subst, arith, Bool, true, false, not, ◌||◌, List, [], ◌∷◌, ltb, Option, Some, None, Ok, Err}
+use Rattle.std.proofs.lemmas.Bool.{and_from, cond-false, cond-true, false≢true, le-leb, lt-ltb, ltb-false, ltb-true, not_from_false, or_parts}
 use Rattle.sharing.specs.Amounts.{megajoules}
 use Rattle.sharing.specs.Limits.{most_quantity}
 use Rattle.sharing.specs.Refusals.{decided, refusal, unless_refused}
@@ -9,8 +9,7 @@ use Rattle.sharing.specs.declared.refusal.Refusal.TheVariants.{NotColder, OutOfD
 use Rattle.sharing.proofs.Picked.{none_hold, refusal_is, refused}
 use Rattle.tariff.specs.declared.estimate.Estimate.{Estimate}
 use Rattle.tariff.specs.Estimates.{estimate_outside, estimate_warm, estimate_why, estimated}
-use Rattle.book.specs.Limits.{month_count, most_register}
-use Rattle.book.specs.Sound.{node_good}
+use Rattle.book.specs.Limits.{most_register}
 use Rattle.book.specs.World.{World, node_at, unused}
 use Rattle.book.specs.declared.records.Node.{Node}
 use Rattle.clerk.specs.Fixings.{as_due, estimate_heat, fix_why, fixing_of, rise_to}
@@ -69,13 +68,6 @@ rise_why n closing = (given (λ r. ltb r n.register) closing, RegisterFalls) ∷
 
 pub rise-low : (n : Node) (closing : Option ℕ) (r : ℕ) → given (λ r. ltb most_register r) closing ≡ false → Ok r ≡ decided (rise_why n closing) (rise_to n closing) → r ≤ most_register
 rise-low n closing r low told = omega (arith, (granted (rise_why n closing) r (rise_to n closing) told).1, rises-low n closing low)
-
--- a sound node carries little
-pub carried_low : (n : Node) → node_good n ≡ true → n.carried ≤ most_quantity
-carried_low n good =
-    let month = and_parts (leb n.month month_count) _ good in
-    let register = and_parts (leb n.register most_register) _ month.1 in
-    leb-true _ _ (and_parts (leb n.carried most_quantity) _ register.1).0
 
 -- an estimate that is too much makes the month's heat too much
 too_much : (o : Option Estimate) (before : ℕ) → given (λ e. ltb most_quantity (estimated e)) o ≡ true → ltb most_quantity (before + estimate_heat o) ≡ true

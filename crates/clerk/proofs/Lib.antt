@@ -1,8 +1,7 @@
 pub mod Balances
-pub mod Columns
+pub mod Charges
 pub mod Gathered
 pub mod Heats
 pub mod MonthLines
-pub mod Parts
 pub mod Posted
 pub mod Written

@@ -3,6 +3,7 @@ pub use Rattle.clerk.specs.declared.paper.Fixing.{Fixing}
 pub use Rattle.clerk.specs.declared.paper.OpenedPaper.{OpenedPaper}
 use Rattle.std.specs.Prelude.{◌≡◌, Bool, false, not, ◌&&◌, leb, ltb, Option, Some, None, Result, Ok, Err}
 use Rattle.sharing.specs.declared.refusal.Refusal.{Refusal}
+use Rattle.sharing.specs.declared.refusal.Refused.{Refused}
 use Rattle.sharing.specs.Limits.{most_quantity}
 use Rattle.book.specs.Limits.{most_register}
 
@@ -16,11 +17,11 @@ abbrev pub fixing_good : Fixing → Bool
 fixing_good f = leb f.heat most_quantity && (leb f.water most_quantity && not (given (λ r. ltb most_register r) f.closing))
 
 -- a refused call gives the paper back as it was
-abbrev pub GivesBack : {A P : Type 0} → P → Result A (P × Refusal) → Type 0
+abbrev pub GivesBack : {A P : Type 0} → P → Result A (Refused P) → Type 0
 GivesBack p (Ok x) = Unit {0}
-GivesBack p (Err e) = e.0 ≡ p
+GivesBack p (Err e) = e.given ≡ p
 
 -- what it answers besides
-abbrev pub bare : {A P : Type 0} → Result A (P × Refusal) → Result A Refusal
+abbrev pub bare : {A P : Type 0} → Result A (Refused P) → Result A Refusal
 bare (Ok x) = Ok x
-bare (Err e) = Err e.1
+bare (Err e) = Err e.refusal

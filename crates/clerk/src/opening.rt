@@ -13,10 +13,7 @@ use sharing::refusal::Refusal;
 pub fn open(book: &Book, node: usize) -> Result<OpenedPaper, Refusal>
     ensures { result ≡ decided (open_why node (world book.now.tables)) (opened node (world book.now.tables)) }
 {
-    if node >= book.tables.nodes.len() {
-        return Err(Refusal::Unknown);
-    }
-    let month = book.tables.nodes[node].month;
+    let month = book.tables.nodes.get(node).ok_or(Refusal::Unknown)?.month;
     if month >= MONTHS {
         return Err(Refusal::NoMonthLeft);
     }

@@ -1,10 +1,21 @@
-// What papers say, in plain numbers.
+// What papers say, in plain numbers, and what is read for them.
+use tariff::estimate::Estimate;
 
 // A paper for a node's month on which no heat is fixed yet. Only opening makes one.
 #[derive(Drop)]
 pub struct OpenedPaper {
     pub(crate) node: usize,
     pub(crate) month: u16,
+}
+
+// What is read of a month, and the estimate where one is due.
+#[derive(Clone, Copy)]
+pub struct Readout {
+    // litres
+    pub water: u64,
+    // MJ, where the meter works
+    pub closing: Option<u64>,
+    pub estimate: Option<Estimate>,
 }
 
 // What a fixing puts on a paper.

@@ -2,9 +2,10 @@
 use crate::fixed::FixedPaper;
 use crate::fixing::fix;
 use crate::opening::open;
+use crate::paper::Readout;
 use crate::posting::post;
 use book::book::Book;
-use book::records::Meter;
+use book::records::{Meter, Terms};
 use book::tables::Places;
 use sharing::amount::Megajoules;
 use sharing::key::{ByArea, ByPower, SharingKey, SubMeters};
@@ -34,6 +35,15 @@ fn places(lines: usize) -> Places {
     }
 }
 
+// Row 0, 100 kW and so much area.
+fn terms(area: u64) -> Terms {
+    Terms {
+        row: 0,
+        power: 100,
+        area,
+    }
+}
+
 // Node 0 at month 228 and register 0 with three objects of 100 kW, of which only the second has an area, and node 1 with none.
 fn town(heap: Global, places: Places) -> Result<Book, Refusal> {
     let mut book = Book::new(heap, places);
@@ -42,7 +52,7 @@ fn town(heap: Global, places: Places) -> Result<Book, Refusal> {
     book.enter_node(1_199, 0)?;
     for area in [0, 5, 0] {
         let recipient = book.enter_recipient()?;
-        book.enter_object(0, recipient, 0, 100, area)?;
+        book.enter_object(0, recipient, terms(area))?;
     }
     Ok(book)
 }
@@ -55,10 +65,12 @@ fn fixed(
     estimate: Option<Estimate>,
 ) -> Result<FixedPaper, Refusal> {
     let paper = open(book, node)?;
-    match fix(book, paper, water, closing, estimate) {
-        Ok(paper) => Ok(paper),
-        Err(refused) => Err(refused.1),
-    }
+    let readout = Readout {
+        water,
+        closing,
+        estimate,
+    };
+    Ok(fix(book, paper, readout)?)
 }
 
 fn why_not(
@@ -67,17 +79,11 @@ fn why_not(
     closing: Option<u64>,
     estimate: Option<Estimate>,
 ) -> Option<Refusal> {
-    match fixed(book, 0, water, closing, estimate) {
-        Ok(_) => None,
-        Err(refusal) => Some(refusal),
-    }
+    fixed(book, 0, water, closing, estimate).err()
 }
 
 fn posted<K: SharingKey>(book: &mut Book, paper: FixedPaper, key: &K) -> Result<(), Refusal> {
-    match post(book, paper, key, &Nearest) {
-        Ok(()) => Ok(()),
-        Err(refused) => Err(refused.1),
-    }
+    Ok(post(book, paper, key, &Nearest)?)
 }
 
 #[test]
@@ -148,7 +154,7 @@ fn a_weight_of_nothing_gets_nothing(rt: HostRuntime) -> Result<(), Fail> {
 #[test]
 fn a_faulted_month_takes_an_estimate(rt: HostRuntime) -> Result<(), Fail> {
     let mut book = town(rt.alloc(), places(3))?;
-    let agreed = Some(Estimate::Agreed(Megajoules(600)));
+    let agreed = Some(Estimate::Agreed(Megajoules::new(600)));
     assert_eq!(rt; why_not(&book, 0, None, None), Some(Refusal::NotAsDue));
     let refused = why_not(&book, 0, Some(0), agreed);
     assert_eq!(rt; refused, Some(Refusal::NotAsDue));
@@ -184,8 +190,8 @@ fn given_numbers_are_refused(rt: HostRuntime) -> Result<(), Fail> {
     let refused = why_not(&book, 0, Some(6), None);
     assert_eq!(rt; refused, Some(Refusal::RegisterFalls));
     let warm = Estimate::Formula(Formula {
-        qow: Megajoules(1_000),
-        qcwt: Megajoules(0),
+        qow: Megajoules::new(1_000),
+        qcwt: Megajoules::new(0),
         tw: 200,
         tb: 0,
         to: 200,
@@ -228,7 +234,7 @@ fn a_month_wants_objects_and_weights(rt: HostRuntime) -> Result<(), Fail> {
     let paper = fixed(&book, 0, 0, Some(0), None)?;
     let refused = posted(&mut book, paper, &SubMeters { readings: &[] });
     assert_eq!(rt; refused, Err(Refusal::NoWeight));
-    book.change_object(1, 0, 100, 0)?;
+    book.change_object(1, terms(0))?;
     let paper = fixed(&book, 0, 0, Some(0), None)?;
     let refused = posted(&mut book, paper, &ByArea);
     assert_eq!(rt; refused, Err(Refusal::NoWeight));

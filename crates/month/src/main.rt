@@ -1,10 +1,11 @@
 #![tactic(auto)]
 // Imports a readings file from standard input into a book of one node, and prints the journal.
-use agreement::call::{Answer, Call};
+use agreement::call::{Answer, Call, Failure};
 use agreement::desk::Desk;
 use agreement::run::run;
+use book::records::Terms;
 use book::tables::Places;
-use readings::answer::ImportAnswer;
+use readings::answer::{ImportAnswer, Stop};
 use readings::listing::Listing;
 use sharing::key::ByPower;
 use sharing::rounding::Nearest;
@@ -53,13 +54,17 @@ fn calls(file: Vec<u8>) -> [Call<ByPower, Nearest>; CALLS] {
     ]
 }
 
+// As in the list of `calls`: the programs share no crate of their own, and one for this would be no plainer.
 fn object_of(recipient: usize) -> Call<ByPower, Nearest> {
-    Call::EnterObject {
-        node: 0,
-        recipient,
+    let terms = Terms {
         row: 0,
         power: 100,
         area: 0,
+    };
+    Call::EnterObject {
+        node: 0,
+        recipient,
+        terms,
     }
 }
 
@@ -72,10 +77,11 @@ fn settle(rt: &HostRuntime) -> anyhow::Result<()> {
     let mut file = Vec::new(heap);
     rt.stdin().take(MOST_BYTES).read_to_end(&mut file)?;
     let calls = calls(file);
-    let mut answers = [Answer::NoPaper; CALLS];
+    let mut answers = [Err(Failure::NoPaper); CALLS];
     let desk = run(Desk::new(heap, PLACES), &calls, &mut answers);
-    if let Answer::Imported(answer) = answers[CALLS - 1] {
-        show_fault(rt, answer)?;
+    let last = answers[CALLS - 1];
+    if let Ok(Answer::Imported(answer)) = last {
+        show_stop(rt, answer)?;
     }
     let listing = Listing {
         lines: &desk.book.tables.lines,
@@ -84,15 +90,14 @@ fn settle(rt: &HostRuntime) -> anyhow::Result<()> {
     Ok(())
 }
 
-fn show_fault(rt: &HostRuntime, answer: ImportAnswer) -> io::Result<()> {
-    if answer.number == 0 {
+fn show_stop(rt: &HostRuntime, answer: ImportAnswer) -> io::Result<()> {
+    let Some(Stop { line, fault }) = answer.stop else {
         return Ok(());
-    }
+    };
     let taken = answer.taken;
-    let number = answer.number;
-    let line = answer.line;
-    let place = answer.place;
-    let layer = answer.layer;
+    let number = fault.number();
+    let place = fault.place();
+    let layer = fault.layer().number();
     eprintln!(rt;
         "stopped after {taken} lines: fault {number} in line {line} at byte {place}, layer {layer}"
     )

@@ -1,6 +1,6 @@
 -- Conditions of calls that follow one another.
-use Rattle.std.proofs.Common.{◌≡◌, ℕ, Bool, true, false, cond, List, [], ◌∷◌, ◌++◌, Some, None, Ok, Option, refl, arith}
-use Rattle.sharing.specs.Refusals.{decided, refusal, unless_refused}
+use Rattle.std.proofs.Common.{◌≡◌, Bool, true, false, cond, List, [], ◌∷◌, ◌++◌, Some, None, refl}
+use Rattle.sharing.specs.Refusals.{refusal}
 use Rattle.sharing.specs.declared.refusal.Refusal.{Refusal}
 
 -- the conditions that come later are looked at where none before holds
@@ -9,12 +9,12 @@ refusal-append [] ys none = refl
 refusal-append (x ∷ xs) ys none = by x.0 none (refusal-append xs ys)
   where
     by : (b : Bool) → cond b (Some x.1) (refusal xs) ≡ None → (refusal xs ≡ None → refusal (xs ++ ys) ≡ refusal ys) → cond b (Some x.1) (refusal (xs ++ ys)) ≡ refusal ys
-    by true none rest = let z : ◌≡◌ {A = ℕ} 0 1 = cc in absurd (omega arith)
+    by true none rest = absurd cc
     by false none rest = rest none
 
 -- one that holds settles it
 pub refusal-first : (xs ys : List (Bool × Refusal)) (f : Refusal) → refusal xs ≡ Some f → refusal (xs ++ ys) ≡ Some f
-refusal-first [] ys f some = let z : ◌≡◌ {A = ℕ} 0 1 = cc in absurd (omega arith)
+refusal-first [] ys f some = absurd cc
 refusal-first (x ∷ xs) ys f some = by x.0 some (refusal-first xs ys f)
   where
     by : (b : Bool) → cond b (Some x.1) (refusal xs) ≡ Some f → (refusal xs ≡ Some f → refusal (xs ++ ys) ≡ Some f) → cond b (Some x.1) (refusal (xs ++ ys)) ≡ Some f
@@ -27,13 +27,5 @@ refusal-parts [] ys none = (refl, none)
 refusal-parts (x ∷ xs) ys none = by x.0 none (refusal-parts xs ys)
   where
     by : (b : Bool) → cond b (Some x.1) (refusal (xs ++ ys)) ≡ None → (refusal (xs ++ ys) ≡ None → (refusal xs ≡ None) × (refusal ys ≡ None)) → (cond b (Some x.1) (refusal xs) ≡ None) × (refusal ys ≡ None)
-    by true none rest = let z : ◌≡◌ {A = ℕ} 0 1 = cc in absurd (omega arith)
+    by true none rest = absurd cc
     by false none rest = rest none
-
--- what an accepted call says of its conditions
-pub accepted_is : {A : Type 0} (why : List (Bool × Refusal)) (x y : A) → Ok x ≡ decided why y → (refusal why ≡ None) × (x ≡ y)
-accepted_is why x y e = told (refusal why) e
-  where
-    told : (o : Option Refusal) → Ok x ≡ unless_refused o y → (o ≡ None) × (x ≡ y)
-    told None e = (refl, cc)
-    told (Some f) e = let z : ◌≡◌ {A = ℕ} 0 1 = cc in absurd (omega arith)

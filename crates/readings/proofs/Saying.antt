@@ -1,15 +1,15 @@
 -- What a line of three fields says.
-use Rattle.std.proofs.Common.{◌≡◌, ℕ, Bool, true, false, cond, List, [], ◌∷◌, get_or, Some, Ok, Err, sym, refl, ap, arith}
+use Rattle.std.proofs.Common.{◌≡◌, ℕ, Bool, true, false, cond, List, [], ◌∷◌, get_or, Some, Ok, Err, sym, refl, ap}
 use Rattle.readings.specs.Faults.{FieldFault, Field, Fields}
 use Rattle.readings.specs.Formats.{Columns, column_number, first_fault, is_value, number_of, reading_of, said, unless_faulty, value_of}
 use Rattle.readings.specs.Texts.{Text, fields_of, three}
 
 ok_by : {X E : Type 0} (b : Bool) (x y : X) (e : E) → Ok x ≡ cond b (Ok y) (Err e) → (b ≡ true) × (x ≡ y)
 ok_by true x y e h = (refl, cc)
-ok_by false x y e h = let z : ◌≡◌ {A = ℕ} 0 1 = cc in absurd (omega arith)
+ok_by false x y e h = absurd cc
 
 err_by : {X E : Type 0} (b : Bool) (x : X) (d e : E) → Err d ≡ cond b (Ok x) (Err e) → (b ≡ false) × (d ≡ e)
-err_by true x d e h = let z : ◌≡◌ {A = ℕ} 0 1 = cc in absurd (omega arith)
+err_by true x d e h = absurd cc
 err_by false x d e h = (refl, cc)
 
 pub good : (f : Text) (n : ℕ) → Ok n ≡ value_of f → (is_value f.bytes ≡ true) × (n ≡ number_of f.bytes)
@@ -21,9 +21,6 @@ bad f e h = err_by (is_value f.bytes) (number_of f.bytes) e (record { place = f.
 module _ (c : Columns) (l f g h : Text) (fields : fields_of l ≡ f ∷ g ∷ h ∷ []) where
   by_fields : unless_faulty (first_fault (f ∷ g ∷ h ∷ [])) (said c (f ∷ g ∷ h ∷ [])) ≡ reading_of c l
   by_fields = ap (λ (fs : List Text). unless_faulty (cond (three fs) (first_fault fs) (Some (Fields l.place))) (said c fs)) (sym fields)
-
-  pub first-bad : (e : FieldFault) → Err e ≡ value_of f → Err (Field e) ≡ reading_of c l
-  first-bad e p = let u = bad f e p in rw u.1 (rw u.0 at by_fields)
 
   pub second_bad : (m : ℕ) (e : FieldFault) → Ok m ≡ value_of f → Err e ≡ value_of g → Err (Field e) ≡ reading_of c l
   second_bad m e p q = let u = bad g e q in rw u.1 (rw ((good f m p).0, u.0) at by_fields)

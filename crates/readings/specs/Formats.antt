@@ -4,15 +4,14 @@ pub use Rattle.readings.specs.declared.columns.Column.TheVariants.{First, Second
 pub use Rattle.readings.specs.declared.columns.Columns.{Columns}
 pub use Rattle.readings.specs.declared.reading.Reading.{Reading}
 use Rattle.std.specs.Prelude.{codes, fold, Bool, cond, not, ◌&&◌, List, [], ◌∷◌, map, ℕ, suc, zero, ◌+◌, ◌-◌, ◌*◌, eqb, leb, ltb, length, get_or, Option, Some, None, Result, Ok, Err}
-use Rattle.std.specs.List.{list_all}
-use Rattle.std.specs.List.{prefix_len}
+use Rattle.std.specs.List.{list_all, position_or_len}
 use Rattle.std.specs.Str.{all_ascii_digits, bytes_eq}
 use Rattle.readings.specs.Faults.{FieldFault, LineFault, Names, Fields, Field}
 use Rattle.readings.specs.Texts.{Text, fields_of, three}
 
 -- which of the fields has these bytes, counted from 0; as many as there are fields where none has them
 abbrev pub index : List ℕ → List Text → ℕ
-index name fields = prefix_len (λ f. not (bytes_eq f.bytes name)) fields
+index name fields = position_or_len (λ f. bytes_eq f.bytes name) fields
 
 -- the names line has three fields, with node, closing and water among them
 abbrev pub names_good : List Text → Bool

@@ -4,14 +4,18 @@ ghost use Rattle.readings.specs.Faults.{stopped, went_through};
 
 use crate::fault::ImportFault;
 
-// How many lines of values were taken, and the first fault with its line, from 1; without a fault all but `taken` are 0.
+// How many lines of values were taken, and what stopped it, if anything did.
 #[derive(Clone, Copy, Debug, PartialEq, Eq)]
 pub struct ImportAnswer {
     pub taken: usize,
-    pub number: u8,
+    pub stop: Option<Stop>,
+}
+
+// The first line with a fault, counted from 1, and its first fault.
+#[derive(Clone, Copy, Debug, PartialEq, Eq)]
+pub struct Stop {
     pub line: usize,
-    pub place: usize,
-    pub layer: u8,
+    pub fault: ImportFault,
 }
 
 impl ImportAnswer {
@@ -19,25 +23,14 @@ impl ImportAnswer {
     pub fn through(taken: usize) -> Self
         ensures { result ≡ went_through taken }
     {
-        ImportAnswer {
-            taken,
-            number: 0,
-            line: 0,
-            place: 0,
-            layer: 0,
-        }
+        ImportAnswer { taken, stop: None }
     }
 
     // A line has a fault.
     pub fn stop(taken: usize, line: usize, fault: ImportFault) -> Self
         ensures { result ≡ stopped taken line fault }
     {
-        ImportAnswer {
-            taken,
-            number: fault.number(),
-            line,
-            place: fault.place(),
-            layer: fault.layer(),
-        }
+        let stop = Some(Stop { line, fault });
+        ImportAnswer { taken, stop }
     }
 }

@@ -1,10 +1,11 @@
 // The names line.
-ghost use Rattle.std.specs.Prelude.{◌≡◌, drop, if◌then◌else◌, Some, None, Ok, Err, MatchResult, nat_lt, slice_index};
-ghost use Rattle.readings.specs.Formats.{column_at, column_number, columns_by, columns_of, index};
-ghost use Rattle.readings.specs.Texts.{first, lines_from, lines_left, text, texts};
+ghost use Rattle.std.specs.Prelude.{◌≡◌, drop, option_map, position, MatchResult, slice_index};
+ghost use Rattle.std.specs.Str.{bytes_eq};
+ghost use Rattle.readings.specs.Formats.{column_at, column_number, columns_by, columns_of};
+ghost use Rattle.readings.specs.Texts.{first, lines_from, lines_left, text};
 
 use crate::fault::LineFault;
-use crate::fields::{ThreeFields, three_fields};
+use crate::fields::three_fields;
 use crate::lines::Lines;
 use crate::piece::Piece;
 
@@ -17,15 +18,22 @@ pub enum Column {
 }
 
 impl Column {
+    // A column by its number, from 0, as `position` counts the three fields of a line.
+    fn at(number: usize) -> Column
+        ensures { result ≡ column_at number }
+    {
+        match number {
+            0 => Column::First,
+            1 => Column::Second,
+            _ => Column::Third,
+        }
+    }
+
     // The value in this column.
     pub(crate) fn of(self, values: [u64; 3]) -> u64
         ensures { result ≡ slice_index values (column_number self) }
     {
-        match self {
-            Column::First => values[0],
-            Column::Second => values[1],
-            Column::Third => values[2],
-        }
+        values[self as usize]
     }
 }
 
@@ -42,9 +50,7 @@ pub fn start(file: &[u8]) -> Result<(Columns, Lines<'_>), LineFault>
     ensures { MatchResult result (λ p. (columns_by (first (lines_from 0 file.now)) ≡ Ok p.0) × (lines_left p.1 ≡ drop 1 (lines_from 0 file.now))) (λ f. columns_by (first (lines_from 0 file.now)) ≡ Err f) }
 {
     let mut lines = Lines::new(file);
-    let Some(line) = lines.next() else {
-        return Err(LineFault::Names { place: 0 });
-    };
+    let line = lines.next().ok_or(LineFault::Names { place: 0 })?;
     let columns = read_names(line)?;
     Ok((columns, lines))
 }
@@ -53,34 +59,28 @@ pub fn start(file: &[u8]) -> Result<(Columns, Lines<'_>), LineFault>
 pub fn read_names(line: Piece<'_>) -> Result<Columns, LineFault>
     ensures { result ≡ columns_of (text line.entry) }
 {
-    let wrong = LineFault::Names {
-        place: line.place(),
-    };
-    let Some(fields) = three_fields(line) else {
+    let wrong = LineFault::Names { place: line.place };
+    let Some((first, second, third)) = three_fields(line) else {
         return Err(wrong);
     };
-    let node = named(fields, b"node").ok_or(wrong)?;
-    let closing = named(fields, b"closing").ok_or(wrong)?;
-    let water = named(fields, b"water").ok_or(wrong)?;
+    let fields = [first, second, third];
     Ok(Columns {
-        node,
-        closing,
-        water,
+        node: named(&fields, b"node").ok_or(wrong)?,
+        closing: named(&fields, b"closing").ok_or(wrong)?,
+        water: named(&fields, b"water").ok_or(wrong)?,
     })
 }
 
 // The field that is this name, if one is.
-fn named(fields: ThreeFields<'_>, name: &[u8]) -> Option<Column>
-    ensures { result ≡ (if nat_lt (index name.now (texts fields.entry)) 3 then Some (column_at (index name.now (texts fields.entry))) else None) }
+fn named(fields: &[Piece<'_>], name: &[u8]) -> Option<Column>
+    ensures { result ≡ option_map column_at (position (λ f. bytes_eq f.bytes.now name.now) fields.now) }
 {
-    if fields.first.bytes() == name {
-        return Some(Column::First);
-    }
-    if fields.second.bytes() == name {
-        return Some(Column::Second);
-    }
-    if fields.third.bytes() == name {
-        return Some(Column::Third);
-    }
-    None
+    find(fields, name).map(Column::at)
+}
+
+// How many fields stand before the first that is this name, if one is.
+fn find(fields: &[Piece<'_>], name: &[u8]) -> Option<usize>
+    ensures { result ≡ position (λ f. bytes_eq f.bytes.now name.now) fields.now }
+{
+    fields.iter().position(|field| field.bytes == name)
 }

@@ -1,6 +1,6 @@
 // Where and why a readings file stops: a field's fault inside a line's inside the import's. Places are bytes, from 0.
 ghost use Rattle.std.specs.Prelude.{◌≡◌};
-ghost use Rattle.readings.specs.Faults.{report};
+ghost use Rattle.readings.specs.Faults.{layer_number, report};
 ghost use Rattle.readings.specs.declared.fault.LineFault.TheVariants.{Field};
 ghost use Rattle.readings.specs.declared.fault.ImportFault.TheVariants.{Line};
 
@@ -27,6 +27,23 @@ pub enum ImportFault {
     Line(LineFault),
     // the book refuses one of the calls of the line that starts there
     Book { place: usize, refusal: Refusal },
+}
+
+// What a fault is about.
+#[derive(Clone, Copy, Debug, PartialEq, Eq)]
+pub enum Layer {
+    Field = 1,
+    Line = 2,
+    Book = 3,
+}
+
+impl Layer {
+    // The number by which the layer is reported; `u8::from(layer)` would not say that.
+    pub fn number(self) -> u8
+        ensures { result ≡ layer_number self }
+    {
+        self as u8
+    }
 }
 
 impl From<FieldFault> for LineFault {
@@ -64,21 +81,20 @@ impl ImportFault {
         ensures { result ≡ (report self).place }
     {
         match self {
-            ImportFault::Line(LineFault::Names { place }) => place,
-            ImportFault::Line(LineFault::Fields { place }) => place,
-            ImportFault::Line(LineFault::Field(fault)) => fault.place,
+            ImportFault::Line(LineFault::Names { place } | LineFault::Fields { place }) => place,
+            ImportFault::Line(LineFault::Field(FieldFault { place })) => place,
             ImportFault::Book { place, .. } => place,
         }
     }
 
-    // 1 for a field, 2 for a line, 3 for the book.
-    pub fn layer(self) -> u8
+    // What it is about.
+    pub fn layer(self) -> Layer
         ensures { result ≡ (report self).layer }
     {
         match self {
-            ImportFault::Line(LineFault::Field(_)) => 1,
-            ImportFault::Line(_) => 2,
-            ImportFault::Book { .. } => 3,
+            ImportFault::Line(LineFault::Field(_)) => Layer::Field,
+            ImportFault::Line(_) => Layer::Line,
+            ImportFault::Book { .. } => Layer::Book,
         }
     }
 }

@@ -14,21 +14,22 @@ use crate::reading::{Reading, read_values};
 use book::book::Book;
 use clerk::fixing::fix;
 use clerk::opening::open;
+use clerk::paper::Readout;
 use clerk::posting::post;
 use sharing::key::ByPower;
 use sharing::refusal::Refusal;
 use sharing::rounding::Nearest;
 
-// Takes the lines of values one by one, each opened, fixed and posted by power and nearest, up to the first fault.
+// Takes the lines of values one by one, each opened, fixed and posted by power and nearest, up to the first fault; `?` would lose how many were taken.
 pub fn import(book: &mut Book, file: &[u8]) -> ImportAnswer
     ensures { Imported file.now (store book.old.tables) result (store book.new.tables) }
 {
-    let (columns, mut lines) = match start(file) {
+    let (columns, lines) = match start(file) {
         Ok(begun) => begun,
-        Err(fault) => return ImportAnswer::stop(0, 1, ImportFault::Line(fault)),
+        Err(fault) => return ImportAnswer::stop(0, 1, fault.into()),
     };
     let mut taken: usize = 0;
-    while let Some(line) = lines.next() {
+    for line in lines {
         match take(book, columns, line) {
             Ok(()) => taken += 1,
             Err(fault) => return ImportAnswer::stop(taken, taken + 2, fault),
@@ -42,28 +43,23 @@ fn take(book: &mut Book, columns: Columns, line: Piece<'_>) -> Result<(), Import
     ensures { TakenLine (text line.entry) (reading_of columns (text line.entry)) (store book.old.tables) (store book.new.tables) result }
 {
     let reading = read_values(columns, line)?;
-    match settle(book, reading) {
-        Ok(()) => Ok(()),
-        Err(refusal) => Err(ImportFault::Book {
-            place: line.place(),
-            refusal,
-        }),
-    }
+    settle(book, reading).map_err(|refusal| ImportFault::Book {
+        place: line.place,
+        refusal,
+    })
 }
 
 // Opens, fixes and posts the month of a reading.
 fn settle(book: &mut Book, reading: Reading) -> Result<(), Refusal>
     ensures { Outcome (reading_entry reading) (store book.old.tables) (store book.new.tables) result }
 {
-    let paper = match open(book, reading.node as usize) {
-        Ok(paper) => paper,
-        Err(refusal) => return Err(refusal),
+    let paper = open(book, reading.node as usize)?;
+    let readout = Readout {
+        water: reading.water,
+        closing: Some(reading.closing),
+        estimate: None,
     };
-    match fix(book, paper, reading.water, Some(reading.closing), None) {
-        Ok(fixed) => match post(book, fixed, &ByPower, &Nearest) {
-            Ok(()) => Ok(()),
-            Err(refused) => Err(refused.1),
-        },
-        Err(refused) => Err(refused.1),
-    }
+    let fixed = fix(book, paper, readout)?;
+    post(book, fixed, &ByPower, &Nearest)?;
+    Ok(())
 }

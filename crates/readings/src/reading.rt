@@ -24,15 +24,10 @@ pub struct Reading {
 pub fn read_values(columns: Columns, line: Piece<'_>) -> Result<Reading, LineFault>
     ensures { result ≡ reading_of columns (text line.entry) }
 {
-    let Some(fields) = three_fields(line) else {
-        return Err(LineFault::Fields {
-            place: line.place(),
-        });
+    let Some((first, second, third)) = three_fields(line) else {
+        return Err(LineFault::Fields { place: line.place });
     };
-    let first = value(fields.first)?;
-    let second = value(fields.second)?;
-    let third = value(fields.third)?;
-    let values = [first, second, third];
+    let values = [value(first)?, value(second)?, value(third)?];
     Ok(Reading {
         node: columns.node.of(values),
         closing: columns.closing.of(values),
@@ -44,22 +39,18 @@ pub fn read_values(columns: Columns, line: Piece<'_>) -> Result<Reading, LineFau
 fn value(field: Piece<'_>) -> Result<u64, FieldFault>
     ensures { result ≡ value_of (text field.entry) }
 {
-    let fault = FieldFault {
-        place: field.place(),
-    };
-    let digits = field.bytes();
-    if digits.is_empty() || digits.len() > MOST_DIGITS {
+    let fault = FieldFault { place: field.place };
+    let digits = field.bytes;
+    if matches!(digits, [] | [b'0', _, ..]) || digits.len() > MOST_DIGITS {
         return Err(fault);
     }
+    // a loop, since `parse` would take a plus too
     let mut n: u64 = 0;
     for digit in digits {
         if !digit.is_ascii_digit() {
             return Err(fault);
         }
         n = n * 10 + u64::from(*digit - b'0');
-    }
-    if digits[0] == b'0' && digits.len() > 1 {
-        return Err(fault);
     }
     if n > MOST_VALUE {
         return Err(fault);

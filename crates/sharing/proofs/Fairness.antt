@@ -1,10 +1,10 @@
 -- Every sharing is fair.
-use Rattle.std.proofs.Common.{◌≡◌, ℕ, ◌+◌, ◌*◌, ◌/◌, ◌<◌, ◌≤◌, false, leb, List, [], ◌∷◌, map, length, get_or, None, sum, sym, ap, ◌∙◌, ⊎_elim, mul-le-mul_right, add-mul, mul-le-mul, mul-zero, mul-add, div-mul-le_self, arith}
+use Rattle.std.proofs.Common.{◌≡◌, ℕ, ◌+◌, ◌*◌, ◌/◌, ◌<◌, ◌≤◌, false, not, leb, List, [], ◌∷◌, map, length, get_or, None, sum, sym, ap, ◌∙◌, ⊎_elim, mul-le-mul_right, add-mul, mul-le-mul, mul-zero, mul-add, div-mul-le_self, arith}
 use native.Mathlib.Nat.{lt-div-mul-add}
 use Rattle.std.specs.List.{AllByRecursion}
 use Rattle.std.proofs.lemmas.List.{get_or-map, length-map}
 use Rattle.std.proofs.ByRecursion.{sum_by_le}
-use Rattle.std.proofs.lemmas.Bool.{cases_lt, eqb-false, le-ltb, leb-true, ltb-false, ne_eqb, not-false, or_from, or_parts}
+use Rattle.std.proofs.lemmas.Bool.{cases_lt, false≢true, eqb-false, le-ltb, leb-true, ltb-false, ne_eqb, not-false, or_from, or_parts}
 use Rattle.sharing.specs.Cuts.{running, cut, Cuts, no_divisor, shared}
 use Rattle.sharing.specs.Limits.{most_quantity, most_objects, most_dividend, most_divisor}
 use Rattle.sharing.specs.Refusals.{refusal}
@@ -78,8 +78,11 @@ module _ (total : ℕ) (weights : List ℕ) (may : Shareable total weights) wher
   weights-low = omega (arith, may.few, sum_by_le (λ w. w) most_quantity weights may.small)
 
   -- the sum of the weights is a divisor
-  pub divisor-taken : no_divisor (sum weights) ≡ false
+  divisor-taken : no_divisor (sum weights) ≡ false
   divisor-taken = or_from _ _ (ne_eqb (sum weights) 0 (λ (e : sum weights ≡ 0). omega (arith, may.some))) (le-ltb _ _ (omega (arith, weights-low)))
+
+  pub cut_taken : (d : ℕ) → d ≡ sum weights → false ≡ not (no_divisor d) → ⊥
+  cut_taken d is refused = false≢true (refused ∙ ap (λ n. not (no_divisor n)) is ∙ ap not divisor-taken)
 
   addends_low : total * sum weights ≤ most_quantity * (most_objects * most_quantity)
   addends_low = mul-le-mul may.limit weights-low

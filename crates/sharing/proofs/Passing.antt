@@ -1,9 +1,9 @@
 -- A loop that looks for an element which fails a test.
-use Rattle.std.proofs.Common.{◌≡◌, ℕ, suc, ◌+◌, ◌<◌, ◌≤◌, Bool, true, false, ◌&&◌, List, [], ◌∷◌, length, get_or, drop, refl, ap, ◌∙◌, ⊎_elim, arith}
+use Rattle.std.proofs.Common.{◌≡◌, ℕ, suc, ◌+◌, ◌<◌, ◌≤◌, Bool, true, false, ◌&&◌, List, [], ◌∷◌, length, get_or, drop, refl, ap, ◌∙◌, arith}
 use Rattle.std.specs.List.{list_all, AllByRecursion}
 use Rattle.std.proofs.ByRecursion.{All-get_or}
-use Rattle.std.proofs.lemmas.List.{at_drop_more, at_drop_all}
-use Rattle.std.proofs.lemmas.Bool.{and_from, and_parts, both_ways, cases_Bool}
+use Rattle.std.proofs.lemmas.List.{at_drop_more}
+use Rattle.std.proofs.lemmas.Bool.{and_from, and_parts}
 
 module _ {X : Type 0} (p : X → Bool) (xs : List X) (i : ℕ) where
   pub one_fails : (d : X) → i < length xs → p (get_or xs i d) ≡ false → list_all p (drop i xs) ≡ false
@@ -11,9 +11,6 @@ module _ {X : Type 0} (p : X → Bool) (xs : List X) (i : ℕ) where
 
   pub one_passes : (d : X) → i < length xs → p (get_or xs i d) ≡ true → list_all p (drop i xs) ≡ list_all p (drop (i + 1) xs)
   one_passes d within passes = at_drop_more (list_all p) xs i d within ∙ ap (λ b. b && list_all p (drop (i + 1) xs)) passes
-
-  pub none_fails : length xs ≤ i → list_all p (drop i xs) ≡ true
-  none_fails past = at_drop_all (list_all p) xs i past
 
 -- where all pass, each does
 pub all_from_pass : {X : Type 0} (p : X → Bool) (P : X → Type 0) → ((x : X) → p x ≡ true → P x) → (xs : List X) → list_all p xs ≡ true → AllByRecursion P xs
@@ -28,10 +25,6 @@ pass_from_all p (x ∷ xs) each = and_from (p x) (list_all p xs) each.0 (pass_fr
 -- where all pass, the one at a place does
 pub pass_at : {X : Type 0} (p : X → Bool) (xs : List X) (i : ℕ) (d : X) → i < length xs → list_all p xs ≡ true → p (get_or xs i d) ≡ true
 pass_at p xs i d within e = All-get_or (λ x. p x ≡ true) xs i d within (all_from_pass p (λ x. p x ≡ true) (λ x h. h) xs e)
-
--- one that fails settles it, wherever it stands
-pub fails_at : {X : Type 0} (p : X → Bool) (xs : List X) (i : ℕ) (d : X) → i < length xs → p (get_or xs i d) ≡ false → list_all p xs ≡ false
-fails_at p xs i d within fails = ⊎_elim (λ e. absurd (both_ways (p (get_or xs i d)) fails (pass_at p xs i d within e))) (λ e. e) (cases_Bool (list_all p xs))
 
 -- all pass where each does
 pub pass_from_each : {X : Type 0} (p : X → Bool) (d : X) (xs : List X) → ((i : ℕ) → i < length xs → p (get_or xs i d) ≡ true) → list_all p xs ≡ true

@@ -23,6 +23,14 @@ refusal_is why f x e = told (refusal why) e
     told None e = let z : ◌≡◌ {A = ℕ} 0 1 = cc in absurd (omega arith)
     told (Some g) e = cc
 
+-- an accepted call has no refusal
+pub not_refused : {A : Type 0} (why : List (Bool × Refusal)) (x y : A) → Ok y ≡ decided why x → refusal why ≡ None
+not_refused why x y e = told (refusal why) e
+  where
+    told : (o : Option Refusal) → Ok y ≡ unless_refused o x → o ≡ None
+    told None e = refl
+    told (Some f) e = let z : ◌≡◌ {A = ℕ} 0 1 = cc in absurd (omega arith)
+
 skipped : (b : Bool) (f : Refusal) (o : Option Refusal) → cond b (Some f) o ≡ None → (b ≡ false) × (o ≡ None)
 skipped true f o e = let z : ◌≡◌ {A = ℕ} 0 1 = cc in absurd (omega arith)
 skipped false f o e = (refl, e)

@@ -1,5 +1,5 @@
 -- The weights that sharing keys give to objects.
-use Rattle.std.specs.Prelude.{Bool, cond, not, ◌&&◌, ◌||◌, List, [], ◌∷◌, map, ℕ, ◌≤◌, eqb, leb, ltb, length, Option, Some, None, is_some, unwrap_or, IfSome, sum}
+use Rattle.std.specs.Prelude.{Bool, cond, not, ◌&&◌, ◌||◌, List, [], ◌∷◌, map, ℕ, ◌≤◌, eqb, leb, ltb, length, Option, Some, None, is_some, unwrap_or, option_and_then, IfSome, sum, find}
 use Rattle.std.specs.List.{list_all}
 use Rattle.sharing.specs.Limits.{most_quantity, most_power, most_area, most_objects}
 use Rattle.sharing.specs.Refusals.{Refusal, OutOfRange, NodeFull, NoWeight}
@@ -24,8 +24,7 @@ allowed heat = cond (leb heat most_quantity) (Some heat) None
 
 -- by sub-meter: the first reading that names the object counts, and an object that none names has no weight
 abbrev pub by_sub_meter : List SubReading → Key
-by_sub_meter [] object power area = None
-by_sub_meter (r ∷ rest) object power area = cond (eqb r.object object) (allowed r.heat.0) (by_sub_meter rest object power area)
+by_sub_meter readings object power area = option_and_then (λ r. allowed r.heat.0) (find (λ r. eqb r.object object) readings)
 
 -- what every key must show: its weights are within the limit wherever power and area are within theirs
 abbrev pub Light : {X : Type 0} → (X → Key) → Type 0

@@ -1,80 +1,40 @@
-// Amounts: whole numbers of one unit, each unit a type of its own.
-ghost use Rattle.std.specs.Prelude.{◌≡◌, ℕ};
-ghost use Rattle.sharing.specs.Amounts.{megajoules, litres, grosz};
-ghost use Rattle.std.proofs.Common.{rules};
+// Amounts: whole numbers of one unit, and the unit is part of the type.
+ghost use Rattle.std.specs.Prelude.{◌≡◌};
+ghost use Rattle.sharing.specs.Amounts.{amount};
 
-pub trait Amount: Copy {
-    // How many units it is.
-    ghost units: { Self → ℕ };
+use crate::limits::MOST_OBJECTS;
+use arrayvec::ArrayVec;
+use std::marker::PhantomData;
 
-    // That many units.
-    ghost many: { ℕ → Self };
+// So many units; U says of what.
+#[derive(Clone, Copy, Debug, Default, PartialEq, Eq)]
+pub struct Amount<U>(pub u64, PhantomData<U>);
 
-    fn new(count: u64) -> Self
-        ensures { result ≡ many count };
+#[derive(Clone, Copy, Debug, Default, PartialEq, Eq)]
+pub struct Heat;
 
-    fn count(&self) -> u64
-        ensures { result ≡ units self.now };
+#[derive(Clone, Copy, Debug, Default, PartialEq, Eq)]
+pub struct Water;
 
-    ghost counted: { (n : ℕ) → units (many n) ≡ n };
-}
+#[derive(Clone, Copy, Debug, Default, PartialEq, Eq)]
+pub struct Money;
 
 // Heat, MJ.
-#[derive(Clone, Copy, Debug, PartialEq, Eq)]
-pub struct Megajoules(pub u64);
-
-impl Amount for Megajoules {
-    ghost units = { λ a. a.0 };
-
-    ghost many = { megajoules };
-
-    ghost counted = { Prim.search rules };
-
-    fn new(count: u64) -> Self {
-        Megajoules(count)
-    }
-
-    fn count(&self) -> u64 {
-        self.0
-    }
-}
+pub type Megajoules = Amount<Heat>;
 
 // Water, litres.
-#[derive(Clone, Copy, Debug, PartialEq, Eq)]
-pub struct Litres(pub u64);
-
-impl Amount for Litres {
-    ghost units = { λ a. a.0 };
-
-    ghost many = { litres };
-
-    ghost counted = { Prim.search rules };
-
-    fn new(count: u64) -> Self {
-        Litres(count)
-    }
-
-    fn count(&self) -> u64 {
-        self.0
-    }
-}
+pub type Litres = Amount<Water>;
 
 // Money, 1/100 zł.
-#[derive(Clone, Copy, Debug, PartialEq, Eq)]
-pub struct Grosz(pub u64);
+pub type Grosz = Amount<Money>;
 
-impl Amount for Grosz {
-    ghost units = { λ a. a.0 };
-
-    ghost many = { grosz };
-
-    ghost counted = { Prim.search rules };
-
-    fn new(count: u64) -> Self {
-        Grosz(count)
-    }
-
-    fn count(&self) -> u64 {
-        self.0
+impl<U> Amount<U> {
+    pub fn new(count: u64) -> Self
+        ensures { result ≡ amount count }
+    {
+        Amount(count, PhantomData)
     }
 }
+
+// At most one value for each object of a node. `ArrayVec` fills the places that are not used with defaults, which nobody sees.
+pub type PerObject<T> = ArrayVec<T, MOST_OBJECTS>;

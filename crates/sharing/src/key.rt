@@ -1,14 +1,14 @@
 // Sharing keys: what a node's heat is divided by.
-ghost use Rattle.std.specs.Prelude.{◌≡◌};
+ghost use Rattle.std.specs.Prelude.{◌≡◌, ◌==◌, find, option_map};
 ghost use Rattle.std.proofs.Common.{le_trans, lit≤};
-ghost use Rattle.sharing.specs.Keys.{Key, Light, by_area, by_power, by_sub_meter, in_range};
+ghost use Rattle.sharing.specs.Keys.{Key, Light, allowed, by_area, by_power, by_sub_meter, in_range};
 ghost use Rattle.sharing.specs.Light.{by_sub_meter_light};
 
 use crate::amount::Megajoules;
 use crate::limits::{MOST_AREA, MOST_POWER, MOST_QUANTITY};
 
 // An object by what a key may weigh it by: its number, ordered power (kW) and floor area (m²).
-#[derive(Clone, Copy)]
+#[derive(Clone, Copy, Default)]
 pub struct Basis {
     pub object: usize,
     pub power: u32,
@@ -49,7 +49,7 @@ impl SharingKey for ByPower {
     }
 }
 
-// By floor area.
+// By floor area: another impl of the one trait, which has the law for both.
 #[derive(Clone, Copy)]
 pub struct ByArea;
 
@@ -82,15 +82,29 @@ impl<'a> SharingKey for SubMeters<'a> {
     ghost light = { λ s object power area _ _. by_sub_meter_light s.readings.now object power area };
 
     fn ask(&self, basis: Basis) -> Option<u32> {
-        for reading in self.readings {
-            if reading.object == basis.object {
-                let heat = reading.heat.0;
-                if heat <= u64::from(MOST_QUANTITY) {
-                    return Some(heat as u32);
-                }
-                return None;
-            }
-        }
+        self.heat_of(basis.object).and_then(allowed)
+    }
+}
+
+impl<'a> SubMeters<'a> {
+    // What the first reading that names an object showed.
+    fn heat_of(&self, object: usize) -> Option<Megajoules>
+        ensures { result ≡ option_map (λ r. r.heat) (find (λ r. r.object == object) self.now.readings.now) }
+    {
+        self.readings
+            .iter()
+            .find(|reading| reading.object == object)
+            .map(|reading| reading.heat)
+    }
+}
+
+// The heat of a sub-meter as a weight, unless it is above the limit.
+fn allowed(heat: Megajoules) -> Option<u32>
+    ensures { result ≡ allowed heat.0 }
+{
+    if heat.0 <= u64::from(MOST_QUANTITY) {
+        Some(heat.0 as u32)
+    } else {
         None
     }
 }

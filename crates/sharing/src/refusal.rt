@@ -1,7 +1,9 @@
 // Why a call is refused.
-ghost use Rattle.std.specs.Prelude.{◌≡◌};
+ghost use Rattle.std.specs.Prelude.{◌≡◌, Some};
 ghost use Rattle.sharing.specs.Order.{Ascend};
 ghost use Rattle.sharing.specs.Refusals.{number, words, Smallest};
+
+use std::fmt;
 
 // Each case with its number, smaller numbers first; docs/REFUSALS.md says when each is answered.
 #[derive(Clone, Copy, Debug, PartialEq, Eq)]
@@ -55,7 +57,7 @@ pub enum Refusal {
 }
 
 impl Refusal {
-    // The number by which the refusal is reported.
+    // The number by which the refusal is reported; `u8::from(refusal)` would not say that.
     pub fn number(self) -> u8
         ensures { result ≡ number self }
     {
@@ -91,6 +93,29 @@ impl Refusal {
             Refusal::Unsound => "tables disagree or a number past its limit",
             Refusal::Memory => "want of memory",
         }
+    }
+}
+
+// A call's refusal, and what was given to the call, as it was.
+#[derive(Clone, Copy, Debug, PartialEq, Eq, Drop)]
+pub struct Refused<T> {
+    pub given: T,
+    pub refusal: Refusal,
+}
+
+impl<T: Drop> From<Refused<T>> for Refusal {
+    ghost from_gives = { λ x y. y ≡ x.refusal };
+
+    fn from(refused: Refused<T>) -> Refusal {
+        refused.refusal
+    }
+}
+
+impl fmt::Display for Refusal {
+    ghost output = { λ x. Some (words x) };
+
+    fn fmt<W: fmt::Write>(&self, f: &mut fmt::Formatter<W>) -> fmt::Result {
+        f.write_str(self.meaning())
     }
 }
 

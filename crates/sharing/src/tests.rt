@@ -1,5 +1,5 @@
 // Examples and edges; the expected numbers are worked out by hand.
-use crate::amount::{Amount, Grosz, Litres, Megajoules};
+use crate::amount::{Amount, Grosz, Litres, Megajoules, PerObject};
 use crate::cut::Cut;
 use crate::key::{Basis, ByArea, ByPower, SharingKey, SubMeters, SubReading};
 use crate::limits::{MOST_DIVIDEND, MOST_DIVISOR, MOST_OBJECTS, MOST_QUANTITY};
@@ -9,16 +9,11 @@ use crate::share::shares;
 use crate::weigh::weigh;
 use std::test::Fail;
 
-// The counts of the first four parts.
-fn counts<U: Amount>(parts: Result<[U; MOST_OBJECTS], Refusal>) -> Result<[u64; 4], Refusal> {
+// The counts of the first four parts, 0 where there are no more.
+fn counts<U>(parts: Result<PerObject<Amount<U>>, Refusal>) -> Result<[u64; 4], Refusal> {
     let parts = parts?;
-    let all = &parts[..];
-    Ok([
-        all[0].count(),
-        all[1].count(),
-        all[2].count(),
-        all[3].count(),
-    ])
+    let count = |i: usize| parts.get(i).map_or(0, |part| part.0);
+    Ok([count(0), count(1), count(2), count(3)])
 }
 
 #[test]
@@ -50,33 +45,33 @@ fn fractions_are_rounded(rt: HostRuntime) {
 fn totals_are_shared(rt: HostRuntime) {
     let thirds = [1u32, 1, 1];
     assert_eq!(rt;
-        counts(shares(&Nearest, Megajoules(100_000), &thirds)),
+        counts(shares(&Nearest, Megajoules::new(100_000), &thirds)),
         Ok([33_333, 33_334, 33_333, 0])
     );
     assert_eq!(rt;
-        counts(shares(&Down, Litres(100_000), &thirds)),
+        counts(shares(&Down, Litres::new(100_000), &thirds)),
         Ok([33_333, 33_333, 33_334, 0])
     );
     assert_eq!(rt;
-        counts(shares(&Nearest, Grosz(0), &thirds)),
+        counts(shares(&Nearest, Grosz::new(0), &thirds)),
         Ok([0, 0, 0, 0])
     );
     assert_eq!(rt;
-        counts(shares(&Nearest, Litres(7), &[0, 5, 0, 5])),
+        counts(shares(&Nearest, Litres::new(7), &[0, 5, 0, 5])),
         Ok([0, 4, 0, 3])
     );
     let most = [MOST_QUANTITY; MOST_OBJECTS];
     assert_eq!(rt;
-        counts(shares(&Down, Megajoules(100_000_000), &most)),
+        counts(shares(&Down, Megajoules::new(100_000_000), &most)),
         Ok([1_562_500, 1_562_500, 1_562_500, 1_562_500])
     );
 }
 
 #[test]
 fn sharing_is_refused(rt: HostRuntime) {
-    let one = Megajoules(1);
+    let one = Megajoules::new(1);
     assert_eq!(rt;
-        counts(shares(&Down, Megajoules(100_000_001), &[1])),
+        counts(shares(&Down, Megajoules::new(100_000_001), &[1])),
         Err(Refusal::OutOfRange)
     );
     assert_eq!(rt;
@@ -136,23 +131,23 @@ fn keys_weigh_objects(rt: HostRuntime) {
     let readings = [
         SubReading {
             object: 6,
-            heat: Megajoules(1),
+            heat: Megajoules::new(1),
         },
         SubReading {
             object: 7,
-            heat: Megajoules(100_000_000),
+            heat: Megajoules::new(100_000_000),
         },
         SubReading {
             object: 7,
-            heat: Megajoules(2),
+            heat: Megajoules::new(2),
         },
         SubReading {
             object: 8,
-            heat: Megajoules(100_000_001),
+            heat: Megajoules::new(100_000_001),
         },
         SubReading {
             object: 8,
-            heat: Megajoules(3),
+            heat: Megajoules::new(3),
         },
     ];
     let meters = SubMeters {
@@ -220,9 +215,11 @@ fn weighing_is_refused(rt: HostRuntime) {
     );
 }
 
-fn first(weights: Result<[u32; MOST_OBJECTS], Refusal>) -> Result<(u32, u32), Refusal> {
+// The first two weights, 0 where there are no more.
+fn first(weights: Result<PerObject<u32>, Refusal>) -> Result<(u32, u32), Refusal> {
     let weights = weights?;
-    Ok((weights[0], weights[1]))
+    let weight = |i: usize| weights.get(i).map_or(0, |w| *w);
+    Ok((weight(0), weight(1)))
 }
 
 #[test]

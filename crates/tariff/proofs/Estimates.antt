@@ -36,18 +36,18 @@ limits f e =
     }
 
 -- the numbers of the one fraction
-module _ (f : Formula) (low : Limits f) (x y : ℕ) (x_low : x ≤ 1_000) (y_low : y ≤ 1_000) where
+module _ (f : Formula) (within : formula_within f ≡ true) (x y : ℕ) (x_low : x ≤ 1_000) (y_low : y ≤ 1_000) where
   pub heating_low : f.qow.0 * x ≤ most_quantity * 1_000
-  heating_low = mul-le-mul low.qow x_low
+  heating_low = mul-le-mul (limits f within).qow x_low
 
   pub constant_low : f.qcwt.0 * y ≤ most_quantity * 1_000
-  constant_low = mul-le-mul low.qcwt y_low
+  constant_low = mul-le-mul (limits f within).qcwt y_low
 
   pub number-low : (f.qow.0 * x + f.qcwt.0 * y) * f.hb ≤ 200_000_000_000 * most_days
-  number-low = mul-le-mul {n₁ = f.qow.0 * x + f.qcwt.0 * y} {n₂ = 200_000_000_000} (omega (arith, heating_low, constant_low)) low.hb
+  number-low = mul-le-mul {n₁ = f.qow.0 * x + f.qcwt.0 * y} {n₂ = 200_000_000_000} (omega (arith, heating_low, constant_low)) (limits f within).hb
 
   pub divisor-low : y * f.ho ≤ 1_000 * most_days
-  divisor-low = mul-le-mul y_low low.ho
+  divisor-low = mul-le-mul y_low (limits f within).ho
 
   pub divisor-some : 1 ≤ y → 1 ≤ y * f.ho
-  divisor-some y_some = mul-le-mul {n₁ = 1} {m₁ = 1} y_some low.some
+  divisor-some y_some = mul-le-mul {n₁ = 1} {m₁ = 1} y_some (limits f within).some

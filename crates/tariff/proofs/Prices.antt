@@ -3,10 +3,12 @@ use Rattle.std.proofs.Common.{◌≡◌, ℕ, zero, suc, ◌+◌, ◌*◌, ◌<�
 use Rattle.std.specs.List.{list_all, AllByRecursion}
 use Rattle.std.proofs.lemmas.List.{append_assoc, append-nil, at_drop_more, length-take-le, take_more}
 use Rattle.std.proofs.lemmas.Bool.{and_from, and_parts, false≢true, eqb-true, leb-true, ltb-true, ltb-false, not-false, or_parts}
+use Rattle.std.proofs.Math.Bool.{and_assoc, and-true}
 use Rattle.sharing.specs.Refusals.{refusal}
 use Rattle.sharing.specs.declared.refusal.Refusal.{Refusal}
 use Rattle.sharing.proofs.Passing.{all_from_pass}
 use Rattle.sharing.proofs.Picked.{none_hold}
+use Rattle.tariff.specs.declared.mixing.Mixing.{Mixing}
 use Rattle.tariff.specs.Charges.{Charge, Power, Fixed, Energy, Variable, Carrier, five, most_price}
 use Rattle.tariff.specs.Rows.{Row, Plain, Mixed, Mix, Prices, price_in, price_over, depth_over, price, depth, most_depth, prices_within, row_why, keeps_rules, mixed_price, worked_out, no_row, rows_good_above, rows_good, whole, PriceLaw}
 use Rattle.tariff.proofs.WorkedOut.{worked_out-below, worked_out-at}
@@ -67,20 +69,19 @@ kept_mixed rows m e =
       limit = λ c. leb-true _ _ (of_five (λ c. leb (price_over c (price c rows) (Mixed m)) (most_price c)) (not-false _ (first-fails _ _ known fails.1.1.1.0)) c);
     }
 
-and_true : (b : Bool) → (b && true) ≡ b
-and_true true = refl
-and_true false = refl
-
-and_assoc : (x y z : Bool) → (x && (y && z)) ≡ ((x && y) && z)
-and_assoc true y z = refl
-and_assoc false y z = refl
-
 good_above : (below rows : List Row) → rows_good_above below rows ≡ true → (i : ℕ) (d : Row) → i < length rows → keeps_rules (below ++ take i rows) (get_or rows i d) ≡ true
 good_above below [] e i d within = absurd (omega arith)
 good_above below (r ∷ rows) e zero d within = ap (λ rs. keeps_rules rs r) (append-nil below) ∙ (and_parts _ _ e).0
 good_above below (r ∷ rows) e (suc i) d within =
     ap (λ rs. keeps_rules rs (get_or rows i d)) (sym (append_assoc below (r ∷ []) (take i rows)))
     ∙ good_above (below ++ r ∷ []) rows (and_parts _ _ e).1 i d (omega arith)
+
+-- what a mixed row in place i has among the rows
+pub record MixedAt (rows : List Row) (i : ℕ) (m : Mix) : Type 0 where
+  pub lower : (m.a.row < i) × (m.b.row < i)
+  pub known : (m.a.row < length rows) × (m.b.row < length rows)
+  pub addend : prices_within m.addend ≡ true
+  pub thousand : m.a.thousandths + m.b.thousandths ≡ whole
 
 module _ (rows : List Row) (good : rows_good rows ≡ true) (i : ℕ) (d : Row) (within : i < length rows) where
   pub row_kept : keeps_rules (take i rows) (get_or rows i d) ≡ true
@@ -127,17 +128,17 @@ module _ (rows : List Row) (good : rows_good rows ≡ true) (i : ℕ) (within : 
   pub depth-within : depth rows i ≤ most_depth
   depth-within = let r = get_or rows i no_row in omega (arith, worked_out-at depth_over rows i no_row within, shallow-at r (row_kept rows good i no_row within))
 
-  -- what holds of a mixed row among the rows below it
-  pub mixed_at : (m : Mix) (d : Row) → get_or rows i d ≡ Mixed m → (m.a.row < i) × (m.b.row < i) × (prices_within m.addend ≡ true) × (m.a.thousandths + m.b.thousandths ≡ whole)
+  -- a mixed row among the rows below it
+  pub mixed_at : (m : Mix) (d : Row) → get_or rows i d ≡ Mixed m → MixedAt rows i m
   mixed_at m d is =
       let k = kept_mixed (take i rows) m (ap (keeps_rules (take i rows)) (sym is) ∙ row_kept rows good i d within) in
       let long = length-take-le i rows (omega arith) in
-      (omega (arith, k.a_low, long), omega (arith, k.b_low, long), k.addend, k.thousand)
-
--- the mix of two prices before its thousandths are divided out
-pub mix_low : (a x b y : ℕ) → a + b ≡ whole → x ≤ most_price Power → y ≤ most_price Power → a * x + b * y ≤ whole * most_price Power
-mix_low a x b y thousand x_low y_low =
-    omega (arith, mul-le-mul_left a x_low, mul-le-mul_left b y_low)
+      record {
+        lower = (omega (arith, k.a_low, long), omega (arith, k.b_low, long));
+        known = (omega (arith, k.a_low, long), omega (arith, k.b_low, long));
+        addend = k.addend;
+        thousand = k.thousand;
+      }
 
 pub price-law : (rows : List Row) → rows_good rows ≡ true → PriceLaw rows
 price-law rows good = record {
@@ -146,29 +147,21 @@ price-law rows good = record {
   shallow = λ i within. depth-within rows good i within;
 }
 
--- what is mixed from the prices of two rows and the addend, and that these are low enough to be mixed
-module _ (c : Charge) (rows : List Row) (good : rows_good rows ≡ true) (m : Mix) (a_low : m.a.row < length rows) (b_low : m.b.row < length rows)
-    (addend : prices_within m.addend ≡ true) (x y z : ℕ) (x_is : x ≡ price c rows m.a.row) (y_is : y ≡ price c rows m.b.row) (z_is : z ≡ price_in c m.addend) where
-  pub parts_low : (x ≤ most_price Power) × ((y ≤ most_price Power) × (z ≤ most_price Power))
-  parts_low =
-      let most = most_low c in
-      (omega (arith, most, price-within rows good m.a.row a_low c), (omega (arith, most, price-within rows good m.b.row b_low c), omega (arith, most, price-low m.addend addend c)))
-
-  pub parts-mixed : (r : ℕ) → r ≡ mixed_price m.a.thousandths x m.b.thousandths y z → r ≡ price_over c (price c rows) (Mixed m)
-  parts-mixed r is =
-      let a = m.a.thousandths in
-      let b = m.b.thousandths in
-      is
-      ∙ ap (λ n. mixed_price a n b y z) x_is
-      ∙ ap (λ n. mixed_price a (price c rows m.a.row) b n z) y_is
-      ∙ ap (λ n. mixed_price a (price c rows m.a.row) b (price c rows m.b.row) n) z_is
+-- the prices of two rows by thousandths, before these are divided out
+pub number_low : (mixing : Mixing) (c : Charge) (x y : ℕ) → x ≡ price c mixing.rows.rows.now mixing.mix.now.a.row → y ≡ price c mixing.rows.rows.now mixing.mix.now.b.row
+    → mixing.mix.now.a.thousandths * x + mixing.mix.now.b.thousandths * y ≤ whole * most_price Power
+number_low mixing c x y x_is y_is =
+    let m = mixing.mix.now in
+    let x_low : x ≤ most_price Power = omega (arith, most_low c, price-within mixing.rows.rows.now mixing.rows.good m.a.row mixing.known.0 c) in
+    let y_low : y ≤ most_price Power = omega (arith, most_low c, price-within mixing.rows.rows.now mixing.rows.good m.b.row mixing.known.1 c) in
+    omega (arith, mul-le-mul_left m.a.thousandths x_low, mul-le-mul_left m.b.thousandths y_low, mixing.thousand)
 
 -- one row more
 good_push : (below rows : List Row) (r : Row) → rows_good_above below (rows ++ r ∷ []) ≡ (rows_good_above below rows && keeps_rules (below ++ rows) r)
-good_push below [] r = and_true (keeps_rules below r) ∙ ap (λ rs. keeps_rules rs r) (sym (append-nil below))
+good_push below [] r = and-true (keeps_rules below r) ∙ ap (λ rs. keeps_rules rs r) (sym (append-nil below))
 good_push below (x ∷ rows) r =
     ap (λ b. keeps_rules below x && b) (good_push (below ++ x ∷ []) rows r ∙ ap (λ rs. rows_good_above (below ++ x ∷ []) rows && keeps_rules rs r) (append_assoc below (x ∷ []) rows))
-    ∙ and_assoc (keeps_rules below x) (rows_good_above (below ++ x ∷ []) rows) (keeps_rules (below ++ x ∷ rows) r)
+    ∙ sym (and_assoc (keeps_rules below x) (rows_good_above (below ++ x ∷ []) rows) (keeps_rules (below ++ x ∷ rows) r))
 
 -- a row that is not refused may be entered above rows that keep the rules
 pub good_entered : (rows : List Row) (r : Row) → rows_good rows ≡ true → refusal (row_why rows r) ≡ None → rows_good (rows ++ r ∷ []) ≡ true

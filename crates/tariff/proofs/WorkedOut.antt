@@ -1,7 +1,7 @@
 -- A number for each row, worked out from those of the rows below it.
 use Rattle.std.proofs.Common.{◌≡◌, ℕ, ◌+◌, ◌<◌, ◌≤◌, List, [], ◌∷◌, ◌++◌, length, get_or, take, drop, fold, sym, refl, ap, ◌∙◌, arith}
 use Rattle.std.proofs.lemmas.List.{get_or_append_left, get_or_push, length_push, length-take-le, take-append-drop, take_more}
-use Rattle.std.proofs.lemmas.List.Sums.{fold_push}
+use Rattle.std.proofs.lemmas.List.Sums.{fold-append, fold_push}
 use Rattle.tariff.specs.Rows.{Row, worked_out}
 
 -- a step of the work
@@ -15,10 +15,6 @@ module _ (over : (ℕ → ℕ) → Row → ℕ) where
   stays below (r ∷ rows) j low =
       stays (step over below r) rows j (omega (arith, length_push below (over (λ k. get_or below k 0) r)))
       ∙ get_or_append_left below (over (λ k. get_or below k 0) r ∷ []) 0 j low
-
-  joins : (below : List ℕ) (xs ys : List Row) → fold (step over) below (xs ++ ys) ≡ fold (step over) (fold (step over) below xs) ys
-  joins below [] ys = refl
-  joins below (x ∷ xs) ys = joins (step over below x) xs ys
 
   longs : (below : List ℕ) (rows : List Row) → length (fold (step over) below rows) ≡ length below + length rows
   longs below [] = omega arith
@@ -34,7 +30,7 @@ module _ (over : (ℕ → ℕ) → Row → ℕ) where
   pub worked_out-below : (rows : List Row) (i j : ℕ) → i ≤ length rows → j < i → get_or (worked_out over (take i rows)) j 0 ≡ get_or (worked_out over rows) j 0
   worked_out-below rows i j within low =
       sym (stays (worked_out over (take i rows)) (drop i rows) j (omega (arith, length-worked_out (take i rows), length-take-le i rows within)))
-      ∙ ap (λ ns. get_or ns j 0) (sym (joins [] (take i rows) (drop i rows)) ∙ ap (worked_out over) (take-append-drop i rows))
+      ∙ ap (λ ns. get_or ns j 0) (sym (fold-append (step over) [] (take i rows) (drop i rows)) ∙ ap (worked_out over) (take-append-drop i rows))
 
   -- the number of row i, from those below it
   pub worked_out-at : (rows : List Row) (i : ℕ) (d : Row) → i < length rows

@@ -1,9 +1,9 @@
 -- The mean temperature of a period, in tenths of °C, from its weather lines.
 use Rattle.std.specs.Float.{nan, inf, fin, binary64}
 use Rattle.std.specs.Float.Ieee.{add, mul, div, le, neg, up, down}
-use Rattle.std.specs.Prelude.{◌/◌, ℤ, pos, ◌+ℤ◌, neg_ℤ, ◌≤ℤ◌, fold, from_bits, Float, Bool, true, false, not, ◌&&◌, ◌||◌, List, [], ◌∷◌, ◌++◌, ℕ, ◌+◌, ◌*◌, eqb, ltb, length, Option, Some, None}
+use Rattle.std.specs.Prelude.{◌/◌, ℤ, pos, ◌+ℤ◌, neg_ℤ, ◌≤ℤ◌, fold, from_bits, Float, Bool, true, false, not, ◌&&◌, ◌||◌, List, [], ◌∷◌, ℕ, ◌+◌, ◌*◌, eqb, ltb, length, Option, Some, None}
 use Rattle.std.specs.Int.{int_div_euclid}
-use Rattle.std.specs.List.{list_all}
+use Rattle.std.specs.List.{filter_map, list_all}
 use Rattle.sharing.specs.declared.refusal.Refusal.{Refusal}
 use Rattle.sharing.specs.declared.refusal.Refusal.TheVariants.{OutOfRange, NoObservation}
 pub use Rattle.tariff.specs.Limits.{most_days, most_degrees, most_tenths}
@@ -58,15 +58,9 @@ observed (line.Mean x) = Some (tenths x)
 observed (line.Extremes e) = Some (tenths (middle e))
 observed line.Missing = None
 
--- one number or none, as a list
-abbrev pub listed : Option ℤ → List ℤ
-listed (Some z) = z ∷ []
-listed None = []
-
 -- the tenths of the observed days
 abbrev pub all_observed : List WeatherLine → List ℤ
-all_observed [] = []
-all_observed (l ∷ rest) = listed (observed l) ++ all_observed rest
+all_observed ls = filter_map observed ls
 
 -- s over n to the nearest whole number, halves up
 abbrev pub halves_up : ℤ → ℕ → ℤ

@@ -58,7 +58,7 @@ pub fn estimated_heat(estimate: &Estimate) -> Result<Megajoules, Refusal>
             if heat > u64::from(MOST_QUANTITY) {
                 return Err(Refusal::TooMuchHeat);
             }
-            Ok(Megajoules(heat))
+            Ok(Megajoules::new(heat))
         }
     }
 }
@@ -86,7 +86,7 @@ impl Formula {
     fn days_within(&self) -> bool
         ensures { result ≡ days_within self.now }
     {
-        self.hb <= MOST_DAYS as u64 && self.ho >= 1 && self.ho <= MOST_DAYS as u64
+        self.hb <= MOST_DAYS as u64 && (1..=MOST_DAYS as u64).contains(&self.ho)
     }
 
     // The whole formula as one fraction, rounded once.
@@ -108,7 +108,7 @@ impl Formula {
 fn is_temperature(tenths: i64) -> bool
     ensures { result ≡ temperature tenths }
 {
-    -MOST_TENTHS <= tenths && tenths <= MOST_TENTHS
+    (-MOST_TENTHS..=MOST_TENTHS).contains(&tenths)
 }
 
 // How far x is above y, and 0 where it is not.
@@ -118,5 +118,5 @@ fn degrees_above(x: i64, y: i64) -> u64
     ensures bound { result ≤ 1_000 }
     ensures some { int_le x y ≡ false → 1 ≤ result }
 {
-    if x <= y { 0 } else { (x - y) as u64 }
+    (x - y).max(0) as u64
 }

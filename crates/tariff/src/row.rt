@@ -2,7 +2,7 @@
 ghost use Rattle.std.specs.Prelude.{◌≡◌};
 ghost use Rattle.tariff.specs.Rows.{price_in, prices_within};
 
-use crate::charge::Charge;
+use crate::charge::{Charge, FIVE};
 
 // Power and fixed in grosz per MW and year, energy and variable in grosz per GJ, carrier in grosz per m³.
 #[derive(Clone, Copy, Debug, PartialEq, Eq)]
@@ -53,10 +53,7 @@ impl Prices {
     pub fn within(&self) -> bool
         ensures { result ≡ prices_within self.now }
     {
-        self.power <= Charge::Power.most_price()
-            && self.fixed <= Charge::Fixed.most_price()
-            && self.energy <= Charge::Energy.most_price()
-            && self.variable <= Charge::Variable.most_price()
-            && self.carrier <= Charge::Carrier.most_price()
+        FIVE.iter()
+            .all(|charge| self.of(*charge) <= charge.most_price())
     }
 }

@@ -4,7 +4,6 @@ use crate::charges::{Use, charges};
 use crate::estimate::{Estimate, Formula, estimated_heat};
 use crate::row::{Mix, MixPart, Prices, Row};
 use crate::rows::Rows;
-use crate::rules::keep_rules;
 use sharing::amount::{Litres, Megajoules};
 use sharing::refusal::Refusal;
 
@@ -39,17 +38,11 @@ fn mixed(a: usize, of_a: u64, b: usize, of_b: u64, addend: u64) -> Row {
 
 // The check of a row above rows that keep the rules.
 fn checked(rows: &[Row], row: Row) -> Result<(), Refusal> {
-    if !keep_rules(rows) {
-        return Err(Refusal::Unsound);
-    }
-    Rows { rows }.check(&row)
+    Rows::new(rows)?.check(&row)
 }
 
 fn price(rows: &[Row], row: usize) -> Result<u64, Refusal> {
-    if !keep_rules(rows) {
-        return Err(Refusal::Unsound);
-    }
-    Rows { rows }.price(row, Charge::Energy)
+    Rows::new(rows)?.price(row, Charge::Energy)
 }
 
 #[test]
@@ -138,20 +131,17 @@ const MONTH: [Row; 1] = [Row::Plain(Prices {
 fn used(heat: u64, water: u64) -> Use {
     Use {
         kw: 100,
-        heat: Megajoules(heat),
-        water: Litres(water),
+        heat: Megajoules::new(heat),
+        water: Litres::new(water),
         row: 0,
     }
 }
 
-// The first three charges.
+// The first three charges, 0 where there are no more.
 fn charged(charge: Charge, uses: &[Use]) -> Result<(u64, u64, u64), Refusal> {
-    let rows = &MONTH[..];
-    if !keep_rules(rows) {
-        return Err(Refusal::Unsound);
-    }
-    let parts = charges(Rows { rows }, charge, uses)?;
-    Ok((parts[0].0, parts[1].0, parts[2].0))
+    let parts = charges(Rows::new(&MONTH)?, charge, uses)?;
+    let count = |i: usize| parts.get(i).map_or(0, |part| part.0);
+    Ok((count(0), count(1), count(2)))
 }
 
 #[test]
@@ -192,15 +182,17 @@ fn charges_are_refused(rt: HostRuntime) {
     assert_eq!(rt; charged(Charge::Power, &[good; 65]), Err(Refusal::NodeFull));
 }
 
-const WINTER: Formula = Formula {
-    qow: Megajoules(600_000),
-    qcwt: Megajoules(90_000),
-    tw: 200,
-    tb: -10,
-    to: 50,
-    hb: 10,
-    ho: 30,
-};
+fn winter() -> Formula {
+    Formula {
+        qow: Megajoules::new(600_000),
+        qcwt: Megajoules::new(90_000),
+        tw: 200,
+        tb: -10,
+        to: 50,
+        hb: 10,
+        ho: 30,
+    }
+}
 
 fn by_formula(formula: Formula) -> Result<u64, Refusal> {
     let heat = estimated_heat(&Estimate::Formula(formula))?;
@@ -209,10 +201,10 @@ fn by_formula(formula: Formula) -> Result<u64, Refusal> {
 
 #[test]
 fn heat_is_estimated(rt: HostRuntime) {
-    assert_eq!(rt; by_formula(WINTER), Ok(310_000));
+    assert_eq!(rt; by_formula(winter()), Ok(310_000));
     let small = Formula {
-        qow: Megajoules(5),
-        qcwt: Megajoules(0),
+        qow: Megajoules::new(5),
+        qcwt: Megajoules::new(0),
         tw: 200,
         tb: 100,
         to: 50,
@@ -220,55 +212,73 @@ fn heat_is_estimated(rt: HostRuntime) {
         ho: 28,
     };
     assert_eq!(rt; by_formula(small), Ok(4));
-    assert_eq!(rt; by_formula(Formula { tb: 200, ..WINTER }), Ok(30_000));
-    assert_eq!(rt; by_formula(Formula { tb: 201, ..WINTER }), Ok(30_000));
-    assert_eq!(rt; by_formula(Formula { hb: 0, ..WINTER }), Ok(0));
     assert_eq!(rt;
-        estimated_heat(&Estimate::Agreed(Megajoules(100_000_000))),
-        Ok(Megajoules(100_000_000))
+        by_formula(Formula {
+            tb: 200,
+            ..winter()
+        }),
+        Ok(30_000)
+    );
+    assert_eq!(rt;
+        by_formula(Formula {
+            tb: 201,
+            ..winter()
+        }),
+        Ok(30_000)
+    );
+    assert_eq!(rt; by_formula(Formula { hb: 0, ..winter() }), Ok(0));
+    assert_eq!(rt;
+        estimated_heat(&Estimate::Agreed(Megajoules::new(100_000_000))),
+        Ok(Megajoules::new(100_000_000))
     );
 }
 
 #[test]
 fn estimates_are_refused(rt: HostRuntime) {
     assert_eq!(rt;
-        estimated_heat(&Estimate::Agreed(Megajoules(100_000_001))),
+        estimated_heat(&Estimate::Agreed(Megajoules::new(100_000_001))),
         Err(Refusal::OutOfRange)
     );
     assert_eq!(rt;
-        by_formula(Formula { to: 200, ..WINTER }),
+        by_formula(Formula {
+            to: 200,
+            ..winter()
+        }),
         Err(Refusal::NotColder)
     );
     assert_eq!(rt;
         by_formula(Formula {
             to: 500,
             tw: 501,
-            ..WINTER
+            ..winter()
         }),
-        Err(Refusal::OutOfRange)
-    );
-    assert_eq!(rt;
-        by_formula(Formula { tb: -501, ..WINTER }),
-        Err(Refusal::OutOfRange)
-    );
-    assert_eq!(rt;
-        by_formula(Formula { ho: 0, ..WINTER }),
-        Err(Refusal::OutOfRange)
-    );
-    assert_eq!(rt;
-        by_formula(Formula { hb: 32, ..WINTER }),
         Err(Refusal::OutOfRange)
     );
     assert_eq!(rt;
         by_formula(Formula {
-            qow: Megajoules(u64::MAX),
-            ..WINTER
+            tb: -501,
+            ..winter()
+        }),
+        Err(Refusal::OutOfRange)
+    );
+    assert_eq!(rt;
+        by_formula(Formula { ho: 0, ..winter() }),
+        Err(Refusal::OutOfRange)
+    );
+    assert_eq!(rt;
+        by_formula(Formula { hb: 32, ..winter() }),
+        Err(Refusal::OutOfRange)
+    );
+    assert_eq!(rt;
+        by_formula(Formula {
+            qow: Megajoules::new(u64::MAX),
+            ..winter()
         }),
         Err(Refusal::OutOfRange)
     );
     let fierce = Formula {
-        qow: Megajoules(100_000_000),
-        qcwt: Megajoules(100_000_000),
+        qow: Megajoules::new(100_000_000),
+        qcwt: Megajoules::new(100_000_000),
         tw: 500,
         tb: -500,
         to: 499,

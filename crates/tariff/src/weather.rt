@@ -50,7 +50,7 @@ impl WeatherLine {
 fn is_degree(celsius: f64) -> bool
     ensures { result ≡ degree celsius }
 {
-    -MOST_DEGREES <= celsius && celsius <= MOST_DEGREES
+    (-MOST_DEGREES..=MOST_DEGREES).contains(&celsius)
 }
 
 // The nearest tenth, halves away from zero.

@@ -29,8 +29,8 @@ pub fn estimate(rt: &HostRuntime) -> Result<(), Stop> {
     let tb = i64::from(period_mean(&LINES)?);
     println!(rt; "  mean of the observed days: {tb}")?;
     let formula = Formula {
-        qow: Megajoules(600_000),
-        qcwt: Megajoules(90_000),
+        qow: Megajoules::new(600_000),
+        qcwt: Megajoules::new(90_000),
         tw: INDOOR,
         tb,
         to: BEFORE,

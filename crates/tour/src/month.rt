@@ -1,14 +1,13 @@
 // A node's month, divided among its objects.
 use crate::show;
 use crate::stop::Stop;
-use sharing::amount::{Litres, Megajoules};
+use sharing::amount::{Litres, Megajoules, PerObject};
 use sharing::key::{Basis, ByPower};
+use sharing::refusal::Refusal;
 use sharing::rounding::Nearest;
 use sharing::share::shares;
 use sharing::weigh::weigh;
 use tariff::charges::Use;
-
-pub const OBJECTS: usize = 3;
 
 const KW: u32 = 100;
 
@@ -17,25 +16,31 @@ const HEAT: u64 = 100_000;
 const WATER: u64 = 1_000;
 
 // The heat and water of each object, shared by ordered power.
-pub fn divide(rt: &HostRuntime) -> Result<[Use; OBJECTS], Stop> {
-    println!(rt;
-        "month of node 0: {HEAT} MJ and {WATER} l over {OBJECTS} objects, by power and nearest"
-    )?;
+pub fn divide(rt: &HostRuntime) -> Result<PerObject<Use>, Stop> {
     let objects = [served(0), served(1), served(2)];
+    println!(rt;
+        "month of node 0: {HEAT} MJ and {WATER} l over {} objects, by power and nearest",
+        objects.len()
+    )?;
     let weights = weigh(&ByPower, &objects)?;
-    let weights = &weights[0..OBJECTS];
-    show::weights(rt, &objects, weights)?;
-    let heat = shares(&Nearest, Megajoules(HEAT), weights)?;
+    show::weights(rt, &objects, &weights)?;
+    let heats = shares(&Nearest, Megajoules::new(HEAT), &weights)?;
     println!(rt; "heat in MJ: {HEAT} times the running weights, over their sum")?;
-    show::cut(rt, &times(HEAT, weights), &heat[0..OBJECTS])?;
-    let water = shares(&Nearest, Litres(WATER), weights)?;
+    show::cut(rt, &weights, |w| HEAT.saturating_mul(u64::from(*w)), &heats)?;
+    let waters = shares(&Nearest, Litres::new(WATER), &weights)?;
     println!(rt; "water in l: {WATER} times the running weights, over their sum")?;
-    show::cut(rt, &times(WATER, weights), &water[0..OBJECTS])?;
-    Ok([
-        used(heat[0], water[0]),
-        used(heat[1], water[1]),
-        used(heat[2], water[2]),
-    ])
+    show::cut(
+        rt,
+        &weights,
+        |w| WATER.saturating_mul(u64::from(*w)),
+        &waters,
+    )?;
+    let mut uses = PerObject::new();
+    for (heat, water) in heats.iter().zip(waters.iter()) {
+        uses.try_push(used(*heat, *water))
+            .map_err(|_| Refusal::NodeFull)?;
+    }
+    Ok(uses)
 }
 
 fn served(object: usize) -> Basis {
@@ -53,13 +58,4 @@ fn used(heat: Megajoules, water: Litres) -> Use {
         water,
         row: 0,
     }
-}
-
-// Each number times the factor.
-fn times(factor: u64, numbers: &[u32]) -> [u64; OBJECTS] {
-    let mut products = [0u64; OBJECTS];
-    for (product, number) in products.iter_mut().zip(numbers.iter()) {
-        *product = factor.saturating_mul(u64::from(*number));
-    }
-    products
 }

@@ -1,49 +1,25 @@
-use Rattle.std.proofs.Common.{vec_items, map, set, refl, ap, ◌∙◌, sym, subst, arith}
+use Rattle.std.proofs.Common.{Ok, Err, vec_items, ap, ◌∙◌, sym}
+use Rattle.std.proofs.lemmas.List.{map-set}
+use Rattle.sharing.specs.Refusals.{unless_refused}
+use Rattle.sharing.proofs.Picked.{refused}
+use Rattle.clerk.specs.Fixings.{fix_why, fixing_of}
 use Rattle.agreement.specs.Desks.{seen, state}
-use Rattle.agreement.specs.Runs.{Fixes}
-use Rattle.agreement.specs.declared.call.Answer.TheVariants.{Fixed, NoPaper, Refused}
+use Rattle.agreement.specs.declared.call.Answer.TheVariants.{Fixed}
 use Rattle.agreement.specs.declared.desk.Slot.TheVariants as slot
-use Rattle.agreement.proofs.Slots.{is_fixed, is_not_fixed, nothing_fixed, paper_past, paper_seen, put, put_back, with_papers}
+use Rattle.agreement.proofs.Slots.{held}
 use Rattle.agreement.proofs.desk.Desk.fix.Goals as goal
-
-pub returns-then-number-len : goal.returns-then-number-len
-returns-then-number-len c =
-    let s = state c.args.self.now in
-    let i = c.args.number in
-    let none = paper_past (vec_items c.args.self.now.papers) i (omega (arith, c.len.ensures)) in
-    subst (λ p. Fixes i c.args.water c.args.closing c.args.estimate p s NoPaper s) (sym none) (refl, refl)
 
 pub returns-in-Ok : goal.returns-in-Ok
 returns-in-Ok c =
     let s = state c.args.self.now in
     let xs = vec_items c.args.self.now.papers in
-    let i = c.args.number in
-    let s' = with_papers s (map seen (set (set xs i c.replace.new.dest) i (slot.Fixed c.in-Ok.fixed))) in
-    let within = c.if-number-len.false in
-    let there = paper_seen xs i c.index_mut.result.now (slot.Opened c.in-Opened.paper) (omega (arith, c.len.ensures)) c.index_mut.ensures.value (sym c.in-Opened.is ∙ c.replace.ensures.value) in
-    let after = ap (with_papers s) (put xs i c.replace.new.dest (slot.Fixed c.in-Ok.fixed)) in
-    subst (λ p. Fixes i c.args.water c.args.closing c.args.estimate p s (Fixed c.fixing-heat.result.heat) s') (sym there)
-    (is_fixed i c.args.water c.args.closing c.args.estimate s s' c.in-Opened.paper c.in-Ok.fixed.fixing c.fixing-heat.result.heat c.in-Ok.ensures.0 c.in-Ok.ensures.1 (ap (λ f. f.heat) c.fixing-heat.ensures) after)
+    let slot_is = held xs (λ p. p.now) c.get_mut.ensures.item.0 c.get_mut.ensures.value c.in_ok-slot.ensures.ok_part c.in-Opened.ensures.value in
+    let granted = ap (λ o. unless_refused o (fixing_of c.in-Opened.paper c.args.readout.water c.args.readout.closing c.args.readout.estimate s.store.world)) (sym c.in-Ok.ensures.0) in
+    rw slot_is.there (Ok c.in-Ok.fixed.fixing, ap Ok c.in-Ok.ensures.1 ∙ granted, ap (λ f. Ok (Fixed f.heat)) c.fixing-heat.ensures, ap (λ ps. record s { papers = ps }) (map-set seen xs c.args.number (slot.Fixed c.in-Ok.fixed)))
 
 pub returns-in-Err : goal.returns-in-Err
 returns-in-Err c =
     let s = state c.args.self.now in
-    let xs = vec_items c.args.self.now.papers in
-    let i = c.args.number in
-    let s' = with_papers s (map seen (set (set xs i c.replace.new.dest) i (slot.Opened c.in-Err.refused.0))) in
-    let held = sym c.in-Opened.is ∙ c.replace.ensures.value in
-    let there = paper_seen xs i c.index_mut.result.now (slot.Opened c.in-Opened.paper) (omega (arith, c.len.ensures, c.if-number-len.false)) c.index_mut.ensures.value held in
-    let after = ap (with_papers s) (put_back xs i c.index_mut.result.now c.replace.new.dest (slot.Opened c.in-Err.refused.0) c.index_mut.ensures.value (ap slot.Opened c.in-Err.ensures.0 ∙ held)) in
-    subst (λ p. Fixes i c.args.water c.args.closing c.args.estimate p s (Refused c.in-Err.refused.1) s') (sym there)
-    (is_not_fixed i c.args.water c.args.closing c.args.estimate s s' c.in-Opened.paper c.in-Err.refused.1 c.in-Err.ensures.1 after)
-
-pub returns-in_default : goal.returns-in_default
-returns-in_default c =
-    let s = state c.args.self.now in
-    let xs = vec_items c.args.self.now.papers in
-    let i = c.args.number in
-    let s' = with_papers s (map seen (set (set xs i c.replace.new.dest) i c.replace.result)) in
-    let there = paper_seen xs i c.index_mut.result.now c.replace.result (omega (arith, c.len.ensures, c.if-number-len.false)) c.index_mut.ensures.value c.replace.ensures.value in
-    let after = ap (with_papers s) (put_back xs i c.index_mut.result.now c.replace.new.dest c.replace.result c.index_mut.ensures.value c.replace.ensures.value) in
-    subst (λ p. Fixes i c.args.water c.args.closing c.args.estimate p s NoPaper s') (sym there)
-    (nothing_fixed i c.args.water c.args.closing c.args.estimate s s' c.replace.result c.in_default.not-Opened after)
+    let why = fix_why c.in-Opened.paper c.args.readout.water c.args.readout.closing c.args.readout.estimate s.store.world in
+    let slot_is = held (vec_items c.args.self.now.papers) (λ p. p.now) c.get_mut.ensures.item.0 c.get_mut.ensures.value c.in_ok-slot.ensures.ok_part c.in-Opened.ensures.value in
+    rw (slot_is.there, c.in-Err.ensures.0) (Err c.in-Err.refused.refusal, refused why c.in-Err.refused.refusal _ c.in-Err.ensures.1, ap Err c.into.ensures, ap (λ ps. record s { papers = ps }) slot_is.back)

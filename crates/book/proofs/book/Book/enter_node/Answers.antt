@@ -1,3 +1,4 @@
+use Rattle.std.proofs.Common.{rules}
 use Rattle.book.specs.Office.{node_entry}
 use Rattle.book.specs.World.{store}
 use Rattle.book.proofs.Keeping.{keeps_node}
@@ -7,4 +8,5 @@ use Rattle.book.proofs.book.Book.enter_node.Goals as goal
 pub invariant_of-self : goal.invariant_of-self
 invariant_of-self c =
     let t = c.args.self.now in
-    record { sound = outcome_sound (node_entry c.args.month c.args.register) (store t.tables) _ c.enter_node.result c.enter_node.ensures t.sound (keeps_node _ c.args.month c.args.register) }
+    let after = record t.tables { nodes = c.add.new.table } in
+    record { sound = outcome_sound (node_entry c.args.month c.args.register) (store t.tables) (store after) c.add.result (search rules) t.sound (keeps_node _ c.args.month c.args.register) }
