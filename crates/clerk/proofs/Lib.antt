@@ -1,4 +1,5 @@
 pub mod Balances
+pub mod Chained
 pub mod Charges
 pub mod Gathered
 pub mod Heats

@@ -15,12 +15,12 @@ use Rattle.book.specs.World.{Store, World}
 use Rattle.book.proofs.Soundness.{Sound}
 use Rattle.clerk.specs.Fixings.{fix_why, open_why, opened}
 use Rattle.clerk.specs.Postings.{post_entry}
+use Rattle.clerk.proofs.Chained.{refused_first, refused_later, refused_nowhere}
 use Rattle.clerk.proofs.Posted.{keeps_post}
 use Rattle.readings.specs.Faults.{Book, ImportAnswer, ImportFault, LineFault, stopped}
 use Rattle.readings.specs.Imports.{TakenLine, TakesLine, reading_entry, reading_fixing}
 use Rattle.readings.specs.Texts.{Text, lines_from}
 use Rattle.readings.specs.declared.reading.Reading.{Reading}
-use Rattle.readings.proofs.Chained.{refusal-append, refusal-first, refusal-parts}
 use Rattle.readings.proofs.Cutting.{lines-few}
 
 -- a reading that is not refused is not refused by any of its calls
@@ -29,7 +29,7 @@ pub reading_granted : (r : Reading) (w : World) → refusal (reading_entry r w).
 reading_granted r w granted =
     let fixing = fix_why (opened r.node w) r.water (Some r.closing) None w in
     let posting = (post_entry by_power nearest (reading_fixing r w) w).why in
-    refusal-parts fixing posting (refusal-parts (open_why r.node w) (fixing ++ posting) granted).1
+    refused_nowhere fixing posting (refused_nowhere (open_why r.node w) (fixing ++ posting) granted).1
 
 pub keeps_reading : (r : Reading) (w : World) → refusal (reading_entry r w).why ≡ None → Sound w → Sound (reading_entry r w).after
 keeps_reading r w granted s =
@@ -48,7 +48,7 @@ fix_refused r s f none e =
     let fixing = fix_why (opened r.node s.world) r.water (Some r.closing) None s.world in
     let posting = (post_entry by_power nearest (reading_fixing r s.world) s.world).why in
     record {
-      reason = inl (refusal-append opening (fixing ++ posting) none ∙ refusal-first fixing posting f e);
+      reason = inl (refused_later opening (fixing ++ posting) none ∙ refused_first fixing posting f e);
       unchanged = refl;
       memory = record { rows = omega arith; recipients = omega arith; nodes = omega arith; objects = omega arith; lines = omega arith };
     }

@@ -1,4 +1,3 @@
-pub mod Chained
 pub mod Cutting
 pub mod Decimal
 pub mod Imported
