@@ -14,7 +14,7 @@ use crate::refusal::Refusal;
 use crate::rounding::Rounding;
 
 // The part of `total` that goes to each weight, in their order.
-pub fn shares<R: Rounding, U: Default>(
+pub fn shares<R: Rounding, U>(
     rule: &R,
     total: Amount<U>,
     weights: &[u32],

@@ -1,5 +1,5 @@
 // Examples and edges; the expected numbers are worked out by hand.
-use crate::amount::{Amount, Grosz, Litres, Megajoules, PerObject};
+use crate::amount::{Amount, Grosz, Litres, Megajoules, Money, PerObject, Unit, Water};
 use crate::cut::Cut;
 use crate::key::{Basis, ByArea, ByPower, SharingKey, SubMeters, SubReading};
 use crate::limits::{MOST_DIVIDEND, MOST_DIVISOR, MOST_OBJECTS, MOST_QUANTITY};
@@ -7,6 +7,7 @@ use crate::refusal::Refusal;
 use crate::rounding::{Down, Fraction, Nearest, Rounding};
 use crate::share::shares;
 use crate::weigh::weigh;
+use std::marker::PhantomData;
 use std::test::Fail;
 
 // The counts of the first four parts, 0 where there are no more.
@@ -92,7 +93,7 @@ fn sharing_is_refused(rt: HostRuntime) {
 
 #[test]
 fn sums_are_cut(rt: HostRuntime) -> Result<(), Fail> {
-    let charge: Cut<Nearest, Grosz> = Cut::new(&Nearest, 12_000)?;
+    let charge: Cut<Nearest, Money> = Cut::new(&Nearest, 12_000)?;
     assert_eq!(rt;
         counts(charge.parts(&[258_039_600; 3])),
         Ok([21_503, 21_504, 21_503, 0])
@@ -111,9 +112,9 @@ fn sums_are_cut(rt: HostRuntime) -> Result<(), Fail> {
         Err(Refusal::OutOfRange)
     );
     assert_eq!(rt; counts(charge.parts(&[0; 65])), Err(Refusal::NodeFull));
-    let none: Result<Cut<Down, Litres>, Refusal> = Cut::new(&Down, 0);
+    let none: Result<Cut<Down, Water>, Refusal> = Cut::new(&Down, 0);
     assert!(rt; none.is_err());
-    let wide: Result<Cut<Down, Litres>, Refusal> = Cut::new(&Down, MOST_DIVISOR + 1);
+    let wide: Result<Cut<Down, Water>, Refusal> = Cut::new(&Down, MOST_DIVISOR + 1);
     assert!(rt; wide.is_err());
     Ok(())
 }
@@ -228,4 +229,27 @@ fn refusals_are_numbered(rt: HostRuntime) {
     assert_eq!(rt; Refusal::NoWeight.number(), 16);
     assert_eq!(rt; Refusal::Unsound.number(), 22);
     assert_eq!(rt; Refusal::Memory.number(), 255);
+}
+
+// An amount in a constant.
+const NORM: Megajoules = Amount(600_000, PhantomData);
+
+// A unit of a caller's own.
+struct Power;
+
+impl Unit for Power {
+    const NAME: &'static str = "Kilowatts";
+}
+
+#[test]
+fn amounts_show_their_units(rt: HostRuntime) -> Result<(), Fail> {
+    let heap = rt.alloc();
+    let Amount(count, _) = NORM;
+    assert_eq!(rt; count, 600_000);
+    let shown = format!(in heap; "{NORM:?} {:?} {:?}", Litres::new(3), Grosz::default())?;
+    assert_eq!(rt; shown.as_str(), "Megajoules(600000) Litres(3) Grosz(0)");
+    let ordered: Amount<Power> = Amount::new(7);
+    let shown = format!(in heap; "{ordered:?}")?;
+    assert_eq!(rt; shown.as_str(), "Kilowatts(7)");
+    Ok(())
 }
