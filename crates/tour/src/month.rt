@@ -9,6 +9,8 @@ use sharing::share::shares;
 use sharing::weigh::weigh;
 use tariff::charges::Use;
 
+pub const OBJECTS: usize = 3;
+
 const KW: u32 = 100;
 
 const HEAT: u64 = 100_000;
@@ -17,24 +19,18 @@ const WATER: u64 = 1_000;
 
 // The heat and water of each object, shared by ordered power.
 pub fn divide(rt: &HostRuntime) -> Result<PerObject<Use>, Stop> {
-    let objects = [served(0), served(1), served(2)];
     println!(rt;
-        "month of node 0: {HEAT} MJ and {WATER} l over {} objects, by power and nearest",
-        objects.len()
+        "month of node 0: {HEAT} MJ and {WATER} l over {OBJECTS} objects, by power and nearest"
     )?;
+    let objects = [served(0), served(1), served(2)];
     let weights = weigh(&ByPower, &objects)?;
     show::weights(rt, &objects, &weights)?;
     let heats = shares(&Nearest, Megajoules::new(HEAT), &weights)?;
     println!(rt; "heat in MJ: {HEAT} times the running weights, over their sum")?;
-    show::cut(rt, &weights, |w| HEAT.saturating_mul(u64::from(*w)), &heats)?;
+    show::cut(rt, &times(HEAT, &weights), &heats)?;
     let waters = shares(&Nearest, Litres::new(WATER), &weights)?;
     println!(rt; "water in l: {WATER} times the running weights, over their sum")?;
-    show::cut(
-        rt,
-        &weights,
-        |w| WATER.saturating_mul(u64::from(*w)),
-        &waters,
-    )?;
+    show::cut(rt, &times(WATER, &weights), &waters)?;
     let mut uses = PerObject::new();
     for (heat, water) in heats.iter().zip(waters.iter()) {
         uses.try_push(used(*heat, *water))
@@ -58,4 +54,13 @@ fn used(heat: Megajoules, water: Litres) -> Use {
         water,
         row: 0,
     }
+}
+
+// Each number times the factor.
+fn times(factor: u64, numbers: &[u32]) -> [u64; OBJECTS] {
+    let mut products = [0u64; OBJECTS];
+    for (product, number) in products.iter_mut().zip(numbers.iter()) {
+        *product = factor.saturating_mul(u64::from(*number));
+    }
+    products
 }

@@ -16,20 +16,13 @@ pub fn weights(rt: &HostRuntime, objects: &[Basis], weights: &[u32]) -> io::Resu
     println!(rt; "  sum of the weights: {sum}")
 }
 
-// Each running sum of what the items add, with the part that goes out at it, and what has gone out in the end.
-pub fn cut<T, U, F: Fn(&T) -> u64>(
-    rt: &HostRuntime,
-    items: &[T],
-    addend: F,
-    parts: &[Amount<U>],
-) -> io::Result<()>
-    requires { F.IsAlwaysCallable addend }
-{
+// Each running sum with the part that goes out at it, and what has gone out in the end.
+pub fn cut<U>(rt: &HostRuntime, addends: &[u64], parts: &[Amount<U>]) -> io::Result<()> {
     let mut sum: u64 = 0;
     let mut given: u64 = 0;
-    for (object, (item, part)) in items.iter().zip(parts.iter()).enumerate() {
+    for (object, (addend, part)) in addends.iter().zip(parts.iter()).enumerate() {
         let count = part.0;
-        sum = sum.saturating_add(addend(item));
+        sum = sum.saturating_add(*addend);
         given = given.saturating_add(count);
         println!(rt; "  object {object}: running sum {sum}, part {count}, given out {given}")?;
     }
